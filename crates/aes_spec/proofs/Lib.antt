@@ -1,3 +1,4 @@
+-- The lemmas on the definitions.
 pub mod BitPlaces
 pub mod ByteLists
 pub mod Bytes

@@ -1,3 +1,4 @@
+-- The S-box and its inverse as tables of 256 bytes, and tests over all bytes.
 use Rattle.std.proofs.Common.{◌≡◌, ℕ, zero, suc, ◌<◌, Bool, true, ◌&&◌, ◌==◌, slice_index, map, nat_lt, bit_xor, w8, refl, arith, inl, inr, ◌∙◌, ap, sym}
 use Rattle.std.proofs.lemmas.Bool.{and_parts, cases_lt, eqb-true, ltb-true}
 use Rattle.std.proofs.lemmas.List.FromFn.{fill_by_all}

@@ -1,3 +1,4 @@
+-- The definitions of AES.
 pub mod Bytes
 pub mod Columns
 pub mod Field

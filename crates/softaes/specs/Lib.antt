@@ -1,3 +1,4 @@
+-- The definitions of this crate.
 pub mod Blocks
 pub mod Columns
 pub mod Places

@@ -10,7 +10,10 @@ ghost use Rattle.aes_spec.specs.Rounds.{R};
 
 mod block;
 pub mod circuit;
+pub mod laws;
 mod rounds;
+#[cfg(test)]
+mod tests;
 
 pub use block::Block;
 pub use rounds::{SoftAes, SoftAesFast, SoftAesModerate, SoftAesSlow};
