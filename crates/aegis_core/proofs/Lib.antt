@@ -4,3 +4,6 @@ pub mod LoopLemmas
 pub mod OneText
 pub mod LaneLemmas
 pub mod VariantLemmas
+pub mod OpenLemmas
+pub mod TagLengths
+pub mod Laws

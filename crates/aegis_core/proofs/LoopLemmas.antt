@@ -90,7 +90,7 @@ encrypt_end c d s t m mc b ys n a k pos ed en fits et em eb ey ea lk =
 
 -- ---- decryption: the front of what there was is the cipher text of the front of what there is
 
-decrypting_more : (c : Family) (s t u : State) (old mc ys : List ℕ) (n : ℕ) → n * c.rate + c.rate ≤ length mc
+pub decrypting_more : (c : Family) (s t u : State) (old mc ys : List ℕ) (n : ℕ) → n * c.rate + c.rate ≤ length mc
     → t ≡ state_after c s mc n → take (n * c.rate) old ≡ text_of c s mc n → drop (n * c.rate) mc ≡ drop (n * c.rate) old
     → ys ≡ xor_bytes (block_at c.rate mc n) (c.keystream t) → u ≡ c.update t ys
     → (u ≡ state_after c s (put_mid (n * c.rate) c.rate mc ys) (n + 1))

@@ -9,10 +9,12 @@ mod lane_count;
 mod lane_state;
 mod lanes128;
 mod sealing;
+#[cfg(test)]
+mod tests;
 mod variant;
 
 pub use error::Error;
 pub use lane_state::LaneState;
 pub use lanes128::Lanes128;
-pub use sealing::{seal_in_place, unseal_in_place};
+pub use sealing::{seal_in_place, sealing_laws, unseal_in_place};
 pub use variant::Variant;

@@ -7,6 +7,7 @@ ghost use Rattle.aegis_core.specs.Lanes128.{initial_128};
 ghost use Rattle.aegis_core.specs.Family.{family_128};
 ghost use Rattle.aegis_core.specs.Held.{lanes_family_128, lanes_of_128};
 ghost use Rattle.aegis_core.specs.Sealing.{key_len, nonce_len, seal, Unseals};
+ghost use Rattle.aegis_core.specs.Laws.{IsSealing};
 
 use crate::crypt::{seal_lanes, unseal_lanes};
 use crate::lanes128::Lanes128;
@@ -75,3 +76,11 @@ pub fn unseal_in_place(
         Variant::Aegis128L => unseal_lanes(started_128(1, key, nonce), ad, mc, tag),
     }
 }
+
+/// The laws of sealing with tags of 16 or 32 bytes, for the proofs of callers: lengths are kept, what
+/// was sealed opens to itself and nothing else opens, and the cipher text determines the message. The
+/// call does nothing.
+pub fn sealing_laws(variant: Variant, tag_len: usize)
+    requires { (tag_len ≡ 16) ⊎ (tag_len ≡ 32) }
+    ensures { IsSealing variant tag_len }
+{}
