@@ -1,5 +1,5 @@
 -- The laws of sealing.
-use Rattle.std.proofs.Common.{◌≡◌, ◌⊎◌, ℕ, ◌*◌, Bool, true, List, length, refl, sym, ap, ◌∙◌, Option, Some, None, if◌then◌else◌, subst}
+use Rattle.std.proofs.Common.{◌≡◌, ◌⊎◌, ℕ, ◌*◌, true, List, length, refl, sym, ap, ◌∙◌, Option, Some, None, if◌then◌else◌}
 use Rattle.std.specs.Str.{bytes_eq}
 use Rattle.std.proofs.lemmas.Bool.{cond-true}
 use Rattle.std.proofs.lemmas.Option.{cond_some}
@@ -10,7 +10,7 @@ use Rattle.aegis_core.specs.Laws.{IsSealing}
 use Rattle.aegis_core.specs.declared.variant.Variant.{Variant}
 use Rattle.aegis_core.proofs.OneText.{length-cipher_text, one_text}
 use Rattle.aegis_core.proofs.OpenLemmas.{cipher_text-plain_text, plain_text-cipher_text}
-use Rattle.aegis_core.proofs.TagLengths.{IsSound, sound}
+use Rattle.aegis_core.proofs.TagLengths.{sound}
 
 pub length-seal : (v : Variant) (t : ℕ) (key nonce ad m : List ℕ) → length (seal v t key nonce ad m).0 ≡ length m
 unfolding seal

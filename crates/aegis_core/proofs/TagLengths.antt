@@ -1,11 +1,11 @@
 -- A tag has as many bytes as it should, and a block has bytes.
-use Rattle.std.proofs.Common.{◌≡◌, ◌⊎◌, ℕ, ◌<◌, List, [], ◌∷◌, ◌++◌, length, refl, sym, ap, ◌∙◌, arith, length-append, inl, inr, subst}
+use Rattle.std.proofs.Common.{◌≡◌, ◌⊎◌, ℕ, ◌<◌, List, [], ◌∷◌, ◌++◌, length, refl, sym, ◌∙◌, arith, length-append, inl, inr, subst}
 use Rattle.std.specs.Prelude.{fold, replicate, map}
 use Rattle.std.specs.List.{flat_map}
 use Rattle.aes_spec.specs.Bytes.{xor_bytes}
 use Rattle.aegis_core.specs.Lanes.{State, Block, xor_all}
 use Rattle.aegis_core.specs.Lanes128.{first_seven, low_four, high_four, tag_of_128, final_lane_128}
-use Rattle.aegis_core.specs.Lanes256.{all_six, low_three, high_three, tag_of_256, final_lane_256}
+use Rattle.aegis_core.specs.Lanes256.{all_six, low_three, high_three, tag_of_256}
 use Rattle.aegis_core.specs.Family.{Family}
 use Rattle.aegis_core.specs.Sealing.{family_of}
 use Rattle.aegis_core.specs.declared.variant.Variant.{Variant}

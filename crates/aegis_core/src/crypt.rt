@@ -38,17 +38,17 @@ fn encrypt_tail<S: LaneState>(state: &mut S, tail: &mut [u8])
 }
 
 // Decrypts less than a block in place.
-fn decrypt_tail<S: LaneState>(state: &mut S, tail: &mut [u8])
-    requires { length tail.old < (S.family state.old).rate }
+fn decrypt_tail<S: LaneState>(state: &mut S, text: &mut [u8])
+    requires { length text.old < (S.family state.old).rate }
     ensures same { S.family state.new ≡ S.family state.old }
-    ensures text { tail.new ≡ xor_bytes tail.old ((S.family state.old).keystream (S.lanes state.old)) }
-    ensures updated { S.lanes state.new ≡ absorbed_tail (S.family state.old) (S.lanes state.old) tail.new }
+    ensures text { text.new ≡ xor_bytes text.old ((S.family state.old).keystream (S.lanes state.old)) }
+    ensures updated { S.lanes state.new ≡ absorbed_tail (S.family state.old) (S.lanes state.old) text.new }
 {
     let mut keystream = [0u8; 128];
     let rate = state.rate();
     state.keystream(&mut keystream[..rate]);
-    xor_into(tail, &keystream[..rate]);
-    absorb_tail(state, tail);
+    xor_into(text, &keystream[..rate]);
+    absorb_tail(state, text);
 }
 
 /// Absorbs `input`, padded with zeros to whole blocks.
