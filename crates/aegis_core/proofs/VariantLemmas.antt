@@ -1,11 +1,10 @@
 -- A variant's sealing is its family's.
-use Rattle.std.proofs.Common.{◌≡◌, Bool, true, false, ℕ, List, refl, sym, ap, ◌∙◌}
+use Rattle.std.proofs.Common.{◌≡◌, Bool, true, false, ℕ, List, sym, ap, ◌∙◌}
 use Rattle.std.specs.Bool.{OnTrue, OnFalse}
 use Rattle.aegis_core.specs.Lanes.{State}
 use Rattle.aegis_core.specs.Family.{Family, sealed_by, mac_by}
 use Rattle.aegis_core.specs.Sealing.{family_of, seal, mac}
 use Rattle.aegis_core.specs.declared.variant.Variant.{Variant}
-use Rattle.aegis_core.specs.declared.variant.Variant.TheVariants.{Aegis128L}
 
 -- a state that is the initial one of its family
 pub started : (f d : Family) (s : State) (key nonce : List ℕ) → d ≡ f → s ≡ f.initial key nonce → s ≡ d.initial key nonce
@@ -28,9 +27,6 @@ pub mac_as : (v : Variant) (f : Family) (t : ℕ) (key nonce text tag : List ℕ
     → mac_by f t key nonce text ≡ tag → tag ≡ mac v t key nonce text
 unfolding mac
 mac_as v f t key nonce text tag ef e = sym (ap (λ (x : Family). mac_by x t key nonce text) (sym ef) ∙ e)
-
-pub only : (v : Variant) → v ≡ Aegis128L
-only Aegis128L = refl
 
 pub on_true : (b : Bool) (P Q : Type 0) → (P → Q) → OnTrue b P → OnTrue b Q
 on_true true P Q f p = f p
