@@ -10,7 +10,11 @@ ghost use Rattle.aes_spec.specs.Rounds.{R};
 
 mod block;
 pub mod circuit;
+pub mod key_schedule;
+pub mod laws;
 mod rounds;
+#[cfg(test)]
+mod tests;
 
 pub use block::Block;
 pub use rounds::{SoftAes, SoftAesFast, SoftAesModerate, SoftAesSlow};

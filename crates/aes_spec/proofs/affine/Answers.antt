@@ -1,3 +1,4 @@
+-- The rotated sum is the affine map, by its 256 values.
 use Rattle.std.proofs.Common.{bit_xor, ◌∙◌, arith}
 use Rattle.aes_spec.proofs.Tables.{affine-rotated}
 use Rattle.aes_spec.proofs.affine.Goals as goal

@@ -1,3 +1,4 @@
+-- The partial product, and the remainder that is left.
 use Rattle.std.proofs.Common.{◌≡◌, ◌^◌, ◌<◌, ◌+◌}
 use Rattle.aes_spec.specs.Field.{carryless, remainder, mul}
 use Rattle.aes_spec.proofs.gf_mul.Given as goal

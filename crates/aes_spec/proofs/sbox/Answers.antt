@@ -1,3 +1,4 @@
+-- The search finds the inverse.
 use Rattle.std.proofs.Common.{◌≡◌, sym, ap, ◌∙◌, arith}
 use Rattle.aes_spec.specs.Field.{inverse_up_to}
 use Rattle.aes_spec.proofs.Inverses.{inverse_found, inverse_missed, inverse_none, S-inverse}

@@ -1,3 +1,4 @@
+-- The swapped words by their bit places.
 use Rattle.std.proofs.Common.{◌≡◌, ◌+◌, ◌*◌, ◌^◌, ◌<◌, ◌∙◌, arith, rules}
 use Rattle.aes_spec.specs.Planes.{byte_at}
 use Rattle.aes_spec.proofs.Circuits.{value}

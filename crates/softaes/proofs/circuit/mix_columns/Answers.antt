@@ -1,3 +1,4 @@
+-- The helpers make one word of the input, whose bytes are the mixed columns.
 use Rattle.std.proofs.Common.{◌≡◌, ◌+◌, ◌*◌, bit_xor, ap, ◌∙◌, arith}
 use Rattle.aes_spec.specs.Words.{word_byte}
 use Rattle.softaes.specs.Columns.{pairs, opposite, twice}

@@ -1,3 +1,4 @@
+-- The gates at one position are the gates on single bits, which the table of 256 rows decides.
 use Rattle.std.proofs.Common.{◌∙◌, ap}
 use Rattle.aes_spec.specs.Planes.{byte_at}
 use Rattle.softaes.proofs.AtPositions.{sbox_gates-row}

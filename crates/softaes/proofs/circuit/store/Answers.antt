@@ -1,3 +1,4 @@
+-- The stored words by the bit places of the planes.
 use Rattle.std.proofs.Common.{◌≡◌, ◌*◌, ◌^◌, ◌<◌, ◌∙◌, ap, rules, slice_index, add-zero}
 use Rattle.aes_spec.specs.Words.{word_byte}
 use Rattle.aes_spec.specs.Planes.{byte_at}

@@ -1,3 +1,4 @@
+-- Each bit by its place in the two words.
 use Rattle.std.proofs.Common.{arith}
 use Rattle.softaes.proofs.Swapped.{bit-swapped_low, bit-swapped_high}
 use Rattle.softaes.proofs.circuit.swap_index_bits_6_2.Goals as goal

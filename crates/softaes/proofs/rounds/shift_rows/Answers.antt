@@ -1,3 +1,4 @@
+-- Each byte by its place in the two words.
 use Rattle.std.proofs.Common.{arith}
 use Rattle.softaes.proofs.ShiftedRows.{shifted_bytes}
 use Rattle.softaes.proofs.rounds.shift_rows.Goals as goal

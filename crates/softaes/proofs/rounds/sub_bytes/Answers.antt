@@ -1,3 +1,4 @@
+-- Each byte goes through the planes.
 use Rattle.softaes.proofs.SubBytes.{substituted}
 use Rattle.softaes.proofs.rounds.sub_bytes.Goals as goal
 

@@ -1,3 +1,4 @@
+-- The and of words is that of their bytes.
 use Rattle.std.proofs.Common.{◌∙◌}
 use Rattle.aes_spec.specs.Bytes.{and_bytes}
 use Rattle.softaes.proofs.BlockWords.{bytes_of-and}

@@ -1,3 +1,4 @@
+-- The exclusive or of words is that of their bytes.
 use Rattle.std.proofs.Common.{◌∙◌}
 use Rattle.std.proofs.lemmas.Nat.{xor_lt}
 use Rattle.aes_spec.specs.Bytes.{xor_bytes}

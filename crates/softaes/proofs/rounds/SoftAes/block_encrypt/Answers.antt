@@ -1,3 +1,4 @@
+-- The steps of the round, one after the other.
 use Rattle.std.proofs.Common.{◌≡◌, ◌^◌, ◌<◌, ap, ◌∙◌, rules}
 use Rattle.std.proofs.lemmas.Nat.{xor_lt}
 use Rattle.aes_spec.specs.Rounds.{R, shift_rows, sub_bytes}

@@ -1,3 +1,4 @@
+-- The steps of the last round, one after the other.
 use Rattle.std.proofs.Common.{◌≡◌, ◌^◌, ◌<◌, ap, ◌∙◌, rules}
 use Rattle.std.proofs.lemmas.Nat.{xor_lt}
 use Rattle.aes_spec.specs.Rounds.{RL, shift_rows, sub_bytes}
