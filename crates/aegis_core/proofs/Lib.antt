@@ -9,3 +9,4 @@ pub mod TagLengths
 pub mod Laws
 pub mod RowLemmas
 pub mod LaneLemmas256
+pub mod StreamLemmas

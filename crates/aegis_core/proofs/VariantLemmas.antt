@@ -1,9 +1,10 @@
 -- A variant's sealing is its family's.
-use Rattle.std.proofs.Common.{◌≡◌, Bool, true, false, ℕ, List, sym, ap, ◌∙◌}
+use Rattle.std.proofs.Common.{◌≡◌, length, refl, Bool, true, false, ℕ, List, sym, ap, ◌∙◌}
 use Rattle.std.specs.Bool.{OnTrue, OnFalse}
+use Rattle.aes_spec.specs.Bytes.{xor_bytes}
 use Rattle.aegis_core.specs.Lanes.{State}
-use Rattle.aegis_core.specs.Family.{Family, sealed_by, mac_by}
-use Rattle.aegis_core.specs.Sealing.{family_of, seal, mac}
+use Rattle.aegis_core.specs.Family.{Family, sealed_by, mac_by, stream_by}
+use Rattle.aegis_core.specs.Sealing.{family_of, seal, mac, stream}
 use Rattle.aegis_core.specs.declared.variant.Variant.{Variant}
 
 -- a state that is the initial one of its family
@@ -35,3 +36,13 @@ on_true false P Q f p = p
 pub on_false : (b : Bool) (P Q : Type 0) → (P → Q) → OnFalse b P → OnFalse b Q
 on_false true P Q f p = p
 on_false false P Q f p = f p
+
+pub stream_as : (v w : Variant) (f : Family) (key nonce : List ℕ) (n : ℕ) (out : List ℕ) → v ≡ w → f ≡ family_of w → out ≡ stream_by f key nonce n → out ≡ stream v key nonce n
+unfolding seal stream
+stream_as v w f key nonce n out ev ef e =
+    e ∙ ap (λ (x : Family). stream_by x key nonce n) ef ∙ ap (λ (x : Variant). stream x key nonce n) (sym ev)
+
+pub xor_stream_as : (v w : Variant) (f : Family) (key nonce old out : List ℕ) → v ≡ w → f ≡ family_of w → out ≡ xor_bytes old (stream_by f key nonce (length old))
+    → out ≡ xor_bytes old (stream v key nonce (length old))
+xor_stream_as v w f key nonce old out ev ef e =
+    e ∙ ap (λ (k : List ℕ). xor_bytes old k) (stream_as v w f key nonce (length old) (stream_by f key nonce (length old)) ev ef refl)

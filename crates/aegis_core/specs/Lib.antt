@@ -9,3 +9,4 @@ pub mod Held
 pub mod Sealing
 pub mod Keys
 pub mod Laws
+pub mod Ciphers

@@ -17,7 +17,7 @@ use crate::variant::Variant;
 use softaes::{Block, RoundBlock};
 
 // The initial state of `lanes` lanes of the AEGIS-128 family.
-fn started_128(lanes: usize, key: &[u8], nonce: &[u8]) -> Lanes128<Block>
+pub fn started_128(lanes: usize, key: &[u8], nonce: &[u8]) -> Lanes128<Block>
     requires lanes { IsLaneCount lanes }
     requires key { length key.now ≡ 16 }
     requires nonce { length nonce.now ≡ 16 }
@@ -32,7 +32,7 @@ fn started_128(lanes: usize, key: &[u8], nonce: &[u8]) -> Lanes128<Block>
 }
 
 // The initial state of `lanes` lanes of the AEGIS-256 family.
-fn started_256(lanes: usize, key: &[u8], nonce: &[u8]) -> Lanes256<Block>
+pub fn started_256(lanes: usize, key: &[u8], nonce: &[u8]) -> Lanes256<Block>
     requires lanes { IsLaneCount lanes }
     requires key { length key.now ≡ 32 }
     requires nonce { length nonce.now ≡ 32 }
