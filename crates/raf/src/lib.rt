@@ -1,0 +1,17 @@
+//! An encrypted random-access file over a storage, answering commands.
+#![tactic(auto)]
+
+mod command;
+mod data;
+mod errors;
+mod memory;
+mod source;
+mod storage;
+pub mod tree;
+
+pub use command::{Command, Replies, Reply};
+pub use data::Data;
+pub use errors::{Error, ErrorKind, Reason};
+pub use memory::MemIo;
+pub use source::{RafRng, VecRng};
+pub use storage::RafIo;
