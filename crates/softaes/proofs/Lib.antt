@@ -1,0 +1,20 @@
+-- The lemmas of this crate.
+pub mod AtPositions
+pub mod Back
+pub mod BlockWords
+pub mod ForwardRounds
+pub mod GatePlanes
+pub mod GateWords
+pub mod InverseBytes
+pub mod InverseColumns
+pub mod InverseGates
+pub mod InverseRounds
+pub mod InverseRows
+pub mod InvertedKeys
+pub mod KeyWords
+pub mod LoadStore
+pub mod Mixed
+pub mod SamePlanes
+pub mod ShiftedRows
+pub mod SubBytes
+pub mod Swapped

@@ -1,0 +1,5 @@
+-- The definitions of this crate.
+pub mod Blocks
+pub mod Columns
+pub mod Inverse
+pub mod Places
