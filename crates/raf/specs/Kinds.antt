@@ -1,0 +1,36 @@
+-- Errors by their kinds, and which replies are faults.
+use Rattle.std.specs.Prelude.{Bool, true, false}
+use Rattle.raf.specs.declared.errors.Error.{Error}
+use Rattle.raf.specs.declared.errors.Error.TheVariants as error
+use Rattle.raf.specs.declared.errors.ErrorKind.{ErrorKind}
+use Rattle.raf.specs.declared.errors.ErrorKind.TheVariants.{Io, InvalidArgument, AuthenticationFailed, AlreadyExists, NotFound, Overflow, MerkleNotEnabled, CorruptedChunk, Rng, Hash, Broken, OutOfMemory, Unbuilt}
+use Rattle.raf.specs.declared.command.Reply.{Reply}
+use Rattle.raf.specs.declared.command.Reply.TheVariants.{Refused}
+
+-- the kind of the same name
+abbrev pub kind_of : Error → ErrorKind
+kind_of (error.Io fault) = Io
+kind_of (error.InvalidArgument reason) = InvalidArgument reason
+kind_of error.AuthenticationFailed = AuthenticationFailed
+kind_of error.AlreadyExists = AlreadyExists
+kind_of error.NotFound = NotFound
+kind_of error.Overflow = Overflow
+kind_of error.MerkleNotEnabled = MerkleNotEnabled
+kind_of (error.CorruptedChunk index) = CorruptedChunk index
+kind_of error.Rng = Rng
+kind_of error.Hash = Hash
+kind_of error.Broken = Broken
+kind_of error.OutOfMemory = OutOfMemory
+kind_of error.Unbuilt = Unbuilt
+
+-- it says that a storage, a source or a hasher failed
+abbrev pub is_fault : Reply → Bool
+is_fault (Refused Io) = true
+is_fault (Refused Rng) = true
+is_fault (Refused Hash) = true
+is_fault _ = false
+
+-- it says that the command was refused
+abbrev pub is_refused : Reply → Bool
+is_refused (Refused kind) = true
+is_refused _ = false

@@ -1,0 +1,21 @@
+//! An encrypted random-access file over a storage, answering commands.
+#![tactic(auto)]
+
+mod command;
+mod data;
+mod errors;
+pub mod format;
+mod loading;
+mod memory;
+mod opening;
+mod outside;
+mod source;
+mod storage;
+pub mod tree;
+
+pub use command::{Command, Replies, Reply};
+pub use data::Data;
+pub use errors::{Error, ErrorKind, Reason};
+pub use memory::MemIo;
+pub use source::{RafRng, VecRng};
+pub use storage::RafIo;
