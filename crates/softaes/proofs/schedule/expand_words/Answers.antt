@@ -3,10 +3,10 @@ use Rattle.std.proofs.Common.{◌≡◌, ◌∙◌, ℕ, ◌+◌, ◌-◌, ◌*�
 use Rattle.std.proofs.lemmas.List.{take_all}
 use Rattle.aes_spec.specs.KeySchedule.{all_words, key_words, next_word, with_next}
 use Rattle.softaes.proofs.KeyWords.{le, one_more, key_words_more, with_next_more, with_next_none}
-use Rattle.softaes.proofs.key_schedule.expand_words.Goals as goal
+use Rattle.softaes.proofs.schedule.expand_words.Goals as goal
 
 pub own-preserved : goal.own-preserved
-own-preserved c =
+own-preserved g c =
     let key : List ℕ = c.args.key.now in
     let i : ℕ = c.own.i in
     let four : 4 * i + 4 - 4 * i ≡ 4 = omega arith in
@@ -16,7 +16,7 @@ own-preserved c =
     ∙ sym (key_words_more key i)
 
 pub rest-init : goal.rest-init
-rest-init c =
+rest-init g c =
     let key : List ℕ = c.args.key.now in
     let own : ℕ = length key / 4 in
     let e : c.own.i ≡ own = omega arith in
@@ -26,7 +26,7 @@ rest-init c =
     ∙ sym (with_next_none own start) ∙ ap (with_next own start) (sym none)
 
 pub rest-preserved : goal.rest-preserved
-rest-preserved c =
+rest-preserved g c =
     let key : List ℕ = c.args.key.now in
     let own : ℕ = length key / 4 in
     let start : List (List ℕ) = key_words key own in
@@ -42,7 +42,7 @@ rest-preserved c =
 
 pub returns : goal.returns
 unfolding all_words
-returns c =
+returns g c =
     let key : List ℕ = c.args.key.now in
     let own : ℕ = length key / 4 in
     let count : c.rest.i - own ≡ 3 * own + 28 = omega arith in
