@@ -10,7 +10,9 @@ mod memory;
 mod opening;
 mod outside;
 mod source;
+mod stepping;
 mod storage;
+mod storing;
 pub mod tree;
 
 pub use command::{Command, Replies, Reply};
