@@ -18,3 +18,6 @@ pub mod Held
 pub mod Authentic
 pub mod Plain
 pub mod Runs
+pub mod Opened
+pub mod Progress
+pub mod Outcomes
