@@ -4,7 +4,7 @@ use Rattle.std.proofs.lemmas.List.{take-take, drop-take, take_at, drop_at, appen
 use Rattle.std.proofs.lemmas.Bool.{cases_lt, cases_eq}
 use Rattle.raf.specs.Storage.{resized, spliced}
 use Rattle.raf.specs.Cipher.{Cipher, IsLawful}
-use Rattle.raf.specs.Header.{between, head_of, header_tag, sealed_header}
+use Rattle.raf.specs.Header.{between, head_of, header_tag, sealed_header, InRange, Says, Tagged}
 use Rattle.raf.specs.File.{File, IsFile, beside, sealed, layout_len}
 use Rattle.raf.specs.Stepped.{Holds, file_of, unsealed, with_size, message, stored, laid}
 use Rattle.raf.specs.declared.format.header.Header.{Header}
@@ -70,6 +70,24 @@ module _ (C : Cipher) (lawful : IsLawful C) (key : List ℕ) where
       ∙ ap (λ (k : ℕ). replicate k 0 ++ H ++ drop (0 + length H) x) none
       ∙ ap (λ (k : ℕ). H ++ drop k x) at
       ∙ ap (λ (l : List ℕ). H ++ l) (drop_at (sealed_header C key h) r 96 (length_header h f.says.fields.id))
+
+  -- a header that is written says its fields and has its tag
+  sealed_front : (h : Header) → length h.id ≡ 32 → take 64 (sealed_header C key h) ≡ head_of h
+  sealed_front h id = take_at (head_of h) (header_tag C key (head_of h)) 64 (length_head h id)
+
+  pub sealed_says : (out : List ℕ) (h : Header) → out ≡ sealed_header C key h → InRange h → Says out h
+  sealed_says out h is fields = record {
+    long = omega (arith, ap length is, length_header h fields.id);
+    head = ap (λ (l : List ℕ). take 64 l) is ∙ sealed_front h fields.id;
+    fields = fields;
+  }
+
+  pub sealed_tagged : (out : List ℕ) (h : Header) → out ≡ sealed_header C key h → length h.id ≡ 32 → Tagged C key out
+  sealed_tagged out h is id =
+      ap (λ (l : List ℕ). take 32 (drop 64 l)) is
+      ∙ ap (λ (l : List ℕ). take 32 l) (drop_at (head_of h) (header_tag C key (head_of h)) 64 (length_head h id))
+      ∙ take_all 32 (header_tag C key (head_of h)) (omega (arith, lawful.tag_len (C.header_key key (between 32 64 (head_of h))) (head_of h)))
+      ∙ ap (header_tag C key) (sym (ap (λ (l : List ℕ). take 64 l) is ∙ sealed_front h id))
 
   -- a header and one record are a file
   pub laid_is_file : (b r : List ℕ) (h : Header) (n : ℕ) → IsFile C key b h → 0 < n → n ≤ h.chunk_size → length r ≡ C.nonce_len + n + 16

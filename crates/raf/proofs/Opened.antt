@@ -6,6 +6,7 @@ use Rattle.raf.specs.File.{File, Opens, StandsFor, StandFrom, IsSealedFor, besid
 use Rattle.raf.specs.Stepped.{Holds, file_of, chunks_from, unsealed}
 use Rattle.raf.specs.declared.format.header.Header.{Header}
 use Rattle.raf.proofs.Authentic.{sealed_for}
+use Rattle.raf.proofs.Headers.{says_one}
 
 -- a record that is the sealed form of a chunk opens to it
 unsealed_for : (C : Cipher) (lawful : IsLawful C) (key id r m : List ℕ) (index : ℕ) → IsSealedFor C key id index r m → unsealed C (C.chunk_key key id) id index r ≡ Some m
@@ -48,3 +49,36 @@ opens_held C lawful key b h F held = record {
   count = ap (λ (f : File). length f.chunks) held.file ∙ length-chunks C key b h 0 (chunk_count h.chunk_size h.file_size);
   chunks = subst (λ (l : List (Option (List ℕ))). StandFrom C key h b 0 l) (sym (ap (λ (f : File). f.chunks) held.file)) (stand_from C lawful key b h 0 (chunk_count h.chunk_size h.file_size));
 }
+
+-- what stands for a record is what it opens to
+answer_one : (C : Cipher) (lawful : IsLawful C) (key id r : List ℕ) (index : ℕ) (o : Option (List ℕ)) → StandsFor C key id index r o → o ≡ unsealed C (C.chunk_key key id) id index r
+answer_one C lawful key id r index (Some m) s = sym (unsealed_for C lawful key id r m index s)
+answer_one C lawful key id r index None s = go (unsealed C (C.chunk_key key id) id index r) refl
+  where
+    go : (o : Option (List ℕ)) → unsealed C (C.chunk_key key id) id index r ≡ o → None ≡ unsealed C (C.chunk_key key id) id index r
+    go (Some m) is = absurd (s m (sealed_for C lawful key id r m index is))
+    go None is = sym is
+
+chunks_are : (C : Cipher) (lawful : IsLawful C) (key b : List ℕ) (h : Header) (index n : ℕ) (chunks : List (Option (List ℕ))) → length chunks ≡ n → StandFrom C key h b index chunks
+    → chunks ≡ chunks_from C key h b index n
+chunks_are C lawful key b h index zero [] len s = refl
+chunks_are C lawful key b h index zero (c ∷ chunks) len s = absurd (omega (arith, len))
+chunks_are C lawful key b h index (suc n) [] len s = absurd (omega (arith, len))
+chunks_are C lawful key b h index (suc n) (c ∷ chunks) len s =
+    ap (λ (o : Option (List ℕ)). o ∷ chunks) (answer_one C lawful key h.id (record_at C.nonce_len h.chunk_size h.file_size index b) index c s.0)
+    ∙ ap (λ (l : List (Option (List ℕ))). unsealed C (C.chunk_key key h.id) h.id index (record_at C.nonce_len h.chunk_size h.file_size index b) ∷ l)
+        (chunks_are C lawful key b h (index + 1) n chunks (omega (arith, len)) s.1)
+
+-- bytes open to one file at most
+pub opens_is : (C : Cipher) (lawful : IsLawful C) (key b : List ℕ) (F : File) (o : Opens C key b F) → F ≡ file_of C key o.header b
+opens_is C lawful key b F o = (λ i. record {
+  nonce_len = o.nonce_len i;
+  chunk_size = o.chunk_size i;
+  id = o.id i;
+  size = o.size i;
+  chunks = chunks_are C lawful key b o.header 0 (chunk_count o.header.chunk_size o.header.file_size) F.chunks o.count o.chunks i;
+})
+
+pub opens_one : (C : Cipher) (lawful : IsLawful C) (key b : List ℕ) (F G : File) → Opens C key b F → Opens C key b G → F ≡ G
+opens_one C lawful key b F G o p =
+    opens_is C lawful key b F o ∙ ap (λ (h : Header). file_of C key h b) (says_one b o.header p.header o.is_file.says p.is_file.says) ∙ sym (opens_is C lawful key b G p)

@@ -43,6 +43,7 @@ pub refusal : (C : Cipher) (key : List ℕ) (commands : List Command) (before af
 refusal C key commands before after kind fits why fault kept rng moved within = record {
   why = λ b told. why_refused C key b commands kind fits (why b told);
   number = inr fits;
+  first = λ past. absurd (omega (arith, past, fits));
   count = fault;
   kept = kept;
   rng_faults = rng;
