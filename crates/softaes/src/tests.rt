@@ -2,6 +2,9 @@
 
 ghost use Rattle.std.specs.Prelude.{◌≤◌, length};
 
+use crate::laws::cipher::{
+    ciphered_128, ciphered_192, ciphered_256, deciphered_128, deciphered_192, deciphered_256,
+};
 use crate::unprotected::key_schedule as by_tables;
 use crate::{Block, RoundBlock, SoftAes, key_schedule, unprotected};
 use aes_spec::{gf_mul, sbox};
@@ -83,85 +86,41 @@ fn rounds_have_the_values_of_the_vectors(rt: HostRuntime) {
     rounds_at_vectors!(rt, unprotected::Block, unprotected::SoftAes);
 }
 
-/// A block through all rounds of one path under the keys.
-macro_rules! through {
-    ($keys:ident, $block:ident, $aes:ty, $whole:ident, $last:ident) => {{
-        let end = $keys.len() - 1;
-        let mut state = $block.xor(&$keys[0]);
-        for j in 1..end {
-            state = <$aes>::$whole(&state, &$keys[j]);
-        }
-        <$aes>::$last(&state, &$keys[end])
-    }};
-}
-
-fn ciphered(keys: &[Block], block: &Block) -> Block
-    requires { 1 ≤ length keys.now }
-{
-    through!(keys, block, SoftAes, block_encrypt, block_encrypt_last)
-}
-
-fn deciphered(keys: &[Block], block: &Block) -> Block
-    requires { 1 ≤ length keys.now }
-{
-    through!(keys, block, SoftAes, block_decrypt, block_decrypt_last)
-}
-
+/// A block through all rounds by tables.
 fn ciphered_by_tables(keys: &[unprotected::Block], block: &unprotected::Block) -> unprotected::Block
     requires { 1 ≤ length keys.now }
 {
-    through!(
-        keys,
-        block,
-        unprotected::SoftAes,
-        block_encrypt,
-        block_encrypt_last
-    )
+    let last = keys.len() - 1;
+    let mut state = block.xor(&keys[0]);
+    for j in 1..last {
+        state = unprotected::SoftAes::block_encrypt(&state, &keys[j]);
+    }
+    unprotected::SoftAes::block_encrypt_last(&state, &keys[last])
 }
 
+/// A block through all inverse rounds by tables.
 fn deciphered_by_tables(
     keys: &[unprotected::Block],
     block: &unprotected::Block,
 ) -> unprotected::Block
     requires { 1 ≤ length keys.now }
 {
-    through!(
-        keys,
-        block,
-        unprotected::SoftAes,
-        block_decrypt,
-        block_decrypt_last
-    )
+    let last = keys.len() - 1;
+    let mut state = block.xor(&keys[0]);
+    for j in 1..last {
+        state = unprotected::SoftAes::block_decrypt(&state, &keys[j]);
+    }
+    unprotected::SoftAes::block_decrypt_last(&state, &keys[last])
 }
 
 #[test]
 fn ciphers_by_gates_have_the_values_of_the_standard(rt: HostRuntime) {
-    let plain = Block::from_bytes(&PLAIN);
-
-    let keys = key_schedule::key_expansion_128(&COUNTED);
-    let cipher = ciphered(&keys, &plain);
-    assert_eq!(rt; cipher.to_bytes(), CIPHER_128);
-    assert_eq!(rt;
-        deciphered(&key_schedule::inverse_key_schedule_128(&keys), &cipher),
-        plain
-    );
-
-    let keys = key_schedule::key_expansion_192(&KEY_192);
-    let cipher = ciphered(&keys, &plain);
-    assert_eq!(rt; cipher.to_bytes(), CIPHER_192);
-    assert_eq!(rt;
-        deciphered(&key_schedule::inverse_key_schedule_192(&keys), &cipher),
-        plain
-    );
-
-    let keys = key_schedule::key_expansion_256(&KEY_256);
-    let cipher = ciphered(&keys, &plain);
-    assert_eq!(rt; cipher.to_bytes(), CIPHER_256);
-    assert_eq!(rt;
-        deciphered(&key_schedule::inverse_key_schedule_256(&keys), &cipher),
-        plain
-    );
-
+    assert_eq!(rt; ciphered_128(&COUNTED, &PLAIN), CIPHER_128);
+    assert_eq!(rt; deciphered_128(&COUNTED, &CIPHER_128), PLAIN);
+    assert_eq!(rt; ciphered_192(&KEY_192, &PLAIN), CIPHER_192);
+    assert_eq!(rt; deciphered_192(&KEY_192, &CIPHER_192), PLAIN);
+    assert_eq!(rt; ciphered_256(&KEY_256, &PLAIN), CIPHER_256);
+    assert_eq!(rt; deciphered_256(&KEY_256, &CIPHER_256), PLAIN);
     let zero_keys = &key_schedule::key_expansion_128(&ZEROS)[..];
     assert_eq!(rt; zero_keys[1].to_bytes(), ZERO_ROUND_KEY);
 }
