@@ -211,7 +211,13 @@ fn gates(planes: &[u64; 8]) -> [u64; 8]
     [r28, r26, r14, r21, r25, r24, r23, r18]
 }
 
-/// The S-box without its constant 0x63, in place, at each of the 64 bit positions.
+/// The S-box without its constant 0x63, in place, at each of the 64 bit positions: the byte b of the eight
+/// bits there, plane 0 the highest, becomes `sbox(b) ^ 0x63`.
+///
+/// The inverse in the field is taken over a tower of fields, GF(4) below GF(16) below GF(256), in five
+/// stages: the forms that a product takes of both halves of the byte in GF(16); the norm of the byte, in
+/// GF(16); the inverse of the norm; its products with both halves, which are the halves of the byte's
+/// inverse; and the way back to the bits of AES, with the linear part of the affine map.
 #[inline(always)]
 pub fn sbox_core(planes: &mut [u64; 8])
     ensures { (i : ℕ) → i < 64 → byte_at planes.new i ≡ bit_xor (S (byte_at planes.old i)) 0x63 }
@@ -239,8 +245,9 @@ fn undo_linear(planes: &[u64; 8]) -> [u64; 8]
     ]
 }
 
-/// The inverse S-box of each byte under its constant, `b ^ 0x63`, in place, at each of the 64 bit
-/// positions: the S-box's gates between two linear maps, since inversion in the field is its own inverse.
+/// The inverse S-box of each byte with the constant added, in place, at each of the 64 bit positions: a
+/// byte b becomes the byte whose S-box is `b ^ 0x63`. It is the S-box's gates between two linear maps, since
+/// inversion in the field is its own inverse.
 #[inline(always)]
 pub fn inv_sbox_core(planes: &mut [u64; 8])
     ensures { (i : ℕ) → i < 64 → byte_at planes.new i ≡ IS (bit_xor (byte_at planes.old i) 0x63) }
