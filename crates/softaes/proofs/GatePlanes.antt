@@ -1,14 +1,12 @@
 -- Gates on planes work at each bit position by itself.
-use Rattle.std.proofs.Common.{◌≡◌, ℕ, ◌/◌, ◌%◌, ◌^◌, List, slice_index, bit_and, bit_or, bit_xor, sym, ap, ◌∙◌, get_or}
+use Rattle.std.proofs.Common.{◌≡◌, ℕ, ◌/◌, ◌%◌, ◌^◌, List, slice_index, bit_and, bit_or, sym, ap, ◌∙◌, get_or}
 use Rattle.std.proofs.Math.ListN.{get_or-map}
-use Rattle.std.proofs.lemmas.Nat.{xor_shr, xor_mod, and_shr, and_mod, or_shr, or_mod}
+use Rattle.std.proofs.lemmas.Nat.{and_shr, and_mod, or_shr, or_mod}
 use Rattle.std.proofs.lemmas.Nat.Bits.{bit_at-zero}
 use Rattle.std.specs.Int.{bit_at}
 use Rattle.aes_spec.specs.Planes.{bits}
 use Rattle.aes_spec.specs.Gates.{forms, norm, products, bottom}
-
-pub bit-xor : (a b i : ℕ) → bit_at (bit_xor a b) i ≡ bit_xor (bit_at a i) (bit_at b i)
-bit-xor a b i = ap (λ x. x % 2) (xor_shr a b i) ∙ xor_mod (a / 2 ^ i) (b / 2 ^ i) 1
+use Rattle.aes_spec.proofs.BitPlaces.{bit-xor}
 
 pub bit-and : (a b i : ℕ) → bit_at (bit_and a b) i ≡ bit_and (bit_at a i) (bit_at b i)
 bit-and a b i = ap (λ x. x % 2) (and_shr a b i) ∙ and_mod (a / 2 ^ i) (b / 2 ^ i) 1

@@ -5,7 +5,8 @@ use Rattle.std.proofs.lemmas.Nat.Bits.{bit_at_not}
 use Rattle.std.specs.Int.{bit_at, w64}
 use Rattle.aes_spec.specs.Planes.{bits}
 use Rattle.aes_spec.specs.Gates.{forms, norm, inverted}
-use Rattle.softaes.proofs.GatePlanes.{bit-xor, bit-and, plane-bits}
+use Rattle.aes_spec.proofs.BitPlaces.{bit-xor}
+use Rattle.softaes.proofs.GatePlanes.{bit-and, plane-bits}
 
 -- each plane fits a word
 pub record AreWords (planes : List ℕ) : Type 0 where

@@ -1,5 +1,5 @@
 -- InvSubBytes through the planes.
-use Rattle.std.proofs.Common.{◌≡◌, ℕ, ◌+◌, ◌*◌, ◌<◌, List, [], ◌∷◌, bit_xor, ap, ◌∙◌, arith}
+use Rattle.std.proofs.Common.{◌≡◌, ℕ, ◌+◌, ◌*◌, ◌<◌, List, [], ◌∷◌, bit_xor, sym, ap, ◌∙◌, arith}
 use Rattle.aes_spec.specs.Field.{IS}
 use Rattle.aes_spec.specs.Planes.{byte_at}
 use Rattle.aes_spec.specs.Rounds.{inv_sub_bytes}
@@ -7,6 +7,7 @@ use Rattle.aes_spec.specs.Words.{word_byte}
 use Rattle.aes_spec.proofs.Linear.{byte-xor}
 use Rattle.aes_spec.proofs.Tables.{same_below}
 use Rattle.softaes.specs.Blocks.{bytes_of}
+use Rattle.softaes.specs.Positions.{AreAt}
 use Rattle.softaes.proofs.BlockWords.{word_bytes, lifted}
 use Rattle.softaes.proofs.SubBytes.{constant_right, twice}
 
@@ -19,16 +20,13 @@ one_byte a c k i before after hk loaded gates stored =
     ∙ ap (λ b. IS (bit_xor b 0x63)) (loaded ∙ byte-xor a 0x6363_6363_6363_6363 k ∙ ap (bit_xor (word_byte a k)) constant)
     ∙ ap IS (twice (word_byte a k))
 
-module _ (a b c d : ℕ) (before after : List ℕ)
-    (la : (k : ℕ) → k < 8 → byte_at before (8 * k) ≡ word_byte (bit_xor a 0x6363_6363_6363_6363) k)
-    (lb : (k : ℕ) → k < 8 → byte_at before (8 * k + 4) ≡ word_byte (bit_xor b 0x6363_6363_6363_6363) k)
-    (gates : (i : ℕ) → i < 64 → byte_at after i ≡ IS (bit_xor (byte_at before i) 0x63))
-    (sc : (k : ℕ) → k < 8 → word_byte c k ≡ byte_at after (8 * k)) (sd : (k : ℕ) → k < 8 → word_byte d k ≡ byte_at after (8 * k + 4)) where
+module _ (a b c d : ℕ) (before after : List ℕ) (loaded : AreAt before (bit_xor a 0x6363_6363_6363_6363) (bit_xor b 0x6363_6363_6363_6363))
+    (gates : (i : ℕ) → i < 64 → byte_at after i ≡ IS (bit_xor (byte_at before i) 0x63)) (stored : AreAt after c d) where
   low : (k : ℕ) → k < 8 → word_byte c k ≡ IS (word_byte a k)
-  low k hk = one_byte a c k (8 * k) before after hk (la k hk) (gates (8 * k) (omega arith)) (sc k hk)
+  low k hk = one_byte a c k (8 * k) before after hk (loaded.low k hk) (gates (8 * k) (omega arith)) (sym (stored.low k hk))
 
   high : (k : ℕ) → k < 8 → word_byte d k ≡ IS (word_byte b k)
-  high k hk = one_byte b d k (8 * k + 4) before after hk (lb k hk) (gates (8 * k + 4) (omega arith)) (sd k hk)
+  high k hk = one_byte b d k (8 * k + 4) before after hk (loaded.high k hk) (gates (8 * k + 4) (omega arith)) (sym (stored.high k hk))
 
   substituted_words : word_bytes c d ≡ inv_sub_bytes (word_bytes a b)
   substituted_words = λ i.

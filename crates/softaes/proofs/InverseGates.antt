@@ -9,7 +9,8 @@ use Rattle.aes_spec.specs.Field.{S, IS}
 use Rattle.aes_spec.proofs.Values.{box, sources}
 use Rattle.aes_spec.proofs.Tables.{all_below, all_below_at, same_below, S-table, IS-table}
 use Rattle.aes_spec.specs.Planes.{bits, number_of, byte_at}
-use Rattle.softaes.proofs.GatePlanes.{bit-xor, plane-bits}
+use Rattle.aes_spec.proofs.BitPlaces.{bit-xor}
+use Rattle.softaes.proofs.GatePlanes.{plane-bits}
 use Rattle.aes_spec.proofs.Rows.{all_rows, all_rows_at}
 use Rattle.softaes.specs.Inverse.{undo_linear}
 

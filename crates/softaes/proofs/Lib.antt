@@ -7,14 +7,13 @@ pub mod ForwardRounds
 pub mod GatePlanes
 pub mod GateWords
 pub mod InverseBytes
-pub mod InverseColumns
 pub mod InverseGates
 pub mod InverseRounds
 pub mod InverseRows
 pub mod InvertedKeys
 pub mod KeyWords
 pub mod LoadStore
-pub mod Mixed
+pub mod MixedColumns
 pub mod SamePlanes
 pub mod ShiftedRows
 pub mod SubBytes

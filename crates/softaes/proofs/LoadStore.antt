@@ -1,6 +1,7 @@
 -- `load` and `store` by bit places.
-use Rattle.std.proofs.Common.{◌≡◌, ℕ, ◌+◌, ◌-◌, ◌*◌, ◌/◌, ◌%◌, ◌^◌, ◌<◌, ◌==◌, ◌||◌, Bool, true, List, [], ◌∷◌, length, slice_index, bit_and, refl, sym, ap, ◌∙◌, arith, inl, inr}
+use Rattle.std.proofs.Common.{◌≡◌, ℕ, zero, suc, ◌+◌, ◌-◌, ◌*◌, ◌/◌, ◌%◌, ◌^◌, ◌<◌, ◌==◌, ◌||◌, Bool, true, List, [], ◌∷◌, length, slice_index, bit_and, refl, sym, ap, ◌∙◌, arith, inl, inr}
 use Rattle.std.proofs.lemmas.Bool.{or_cases, eqb-true}
+use Rattle.std.proofs.lemmas.Nat.{and_le_l, shr_le}
 use Rattle.std.specs.Int.{bit_at}
 use Rattle.aes_spec.proofs.Tables.{all_below, all_below_at}
 use Rattle.aes_spec.specs.Words.{word_byte}
@@ -13,6 +14,23 @@ use Rattle.softaes.proofs.Swapped.{two, two-lt, low_word, high_word, low_of, hig
 -- what `load` makes of the swapped words l and h
 abbrev pub planes_of : ℕ → ℕ → List ℕ
 planes_of l h = bit_and h 0x8888_8888_8888_8888 / 2 ^ 3 ∷ bit_and h 0x4444_4444_4444_4444 / 2 ^ 2 ∷ bit_and h 0x2222_2222_2222_2222 / 2 ∷ bit_and h 0x1111_1111_1111_1111 ∷ bit_and l 0x8888_8888_8888_8888 / 2 ^ 3 ∷ bit_and l 0x4444_4444_4444_4444 / 2 ^ 2 ∷ bit_and l 0x2222_2222_2222_2222 / 2 ∷ bit_and l 0x1111_1111_1111_1111 ∷ []
+
+at_place : (x m k : ℕ) → x < 2 ^ 64 → bit_and x m / 2 ^ k < 2 ^ 64
+at_place x m k h = omega (arith, and_le_l x m, shr_le (bit_and x m) k)
+
+kept : (x m : ℕ) → x < 2 ^ 64 → bit_and x m < 2 ^ 64
+kept x m h = omega (arith, and_le_l x m)
+
+pub planes_fit : (l h : ℕ) → l < 2 ^ 64 → h < 2 ^ 64 → (k : ℕ) → slice_index (planes_of l h) k < 2 ^ 64
+planes_fit l h hl hh zero = at_place h 0x8888_8888_8888_8888 3 hh
+planes_fit l h hl hh (suc zero) = at_place h 0x4444_4444_4444_4444 2 hh
+planes_fit l h hl hh (suc (suc zero)) = at_place h 0x2222_2222_2222_2222 1 hh
+planes_fit l h hl hh (suc (suc (suc zero))) = kept h 0x1111_1111_1111_1111 hh
+planes_fit l h hl hh (suc (suc (suc (suc zero)))) = at_place l 0x8888_8888_8888_8888 3 hl
+planes_fit l h hl hh (suc (suc (suc (suc (suc zero))))) = at_place l 0x4444_4444_4444_4444 2 hl
+planes_fit l h hl hh (suc (suc (suc (suc (suc (suc zero)))))) = at_place l 0x2222_2222_2222_2222 1 hl
+planes_fit l h hl hh (suc (suc (suc (suc (suc (suc (suc zero))))))) = kept l 0x1111_1111_1111_1111 hl
+planes_fit l h hl hh (suc (suc (suc (suc (suc (suc (suc (suc k)))))))) = omega arith
 
 abbrev low_test : Word → ℕ → ℕ → Bool
 low_test w s k = is_place (places w (8 * k)) (0 * 64 + (8 * k + s))

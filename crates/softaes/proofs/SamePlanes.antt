@@ -5,10 +5,10 @@ use Rattle.std.proofs.lemmas.List.{length-map}
 use Rattle.std.proofs.lemmas.Nat.Bits.{bit_at-lt, same_from_bits_below}
 use Rattle.std.specs.Int.{bit_at}
 use Rattle.aes_spec.specs.Planes.{bits, number_of, byte_at}
-use Rattle.aes_spec.specs.Words.{word_byte}
 use Rattle.aes_spec.proofs.Bytes.{eight}
 use Rattle.aes_spec.proofs.Rows.{all_rows, all_rows_at}
 use Rattle.aes_spec.proofs.Tables.{all_below, all_below_at}
+use Rattle.softaes.specs.Positions.{AreAt, HaveNoOthers}
 use Rattle.softaes.proofs.GatePlanes.{plane-bits}
 
 -- bit 7 - j of the number is bit j of the row
@@ -39,21 +39,16 @@ module _ (p q : List ℕ) (lp : length p ≡ 8) (lq : length q ≡ 8) (fp : (k :
       ∷ same_plane 4 (omega arith) i ∷ same_plane 5 (omega arith) i ∷ same_plane 6 (omega arith) i ∷ same_plane 7 (omega arith) i ∷ [])
       ∙ sym (eight q lq)
 
--- planes whose bytes at the positions 8k and 8k + 4 are those of other planes, where both have nothing else
-module _ (p q : List ℕ) (lo hi : ℕ)
-    (ql : (k : ℕ) → k < 8 → byte_at q (8 * k) ≡ word_byte lo k) (qh : (k : ℕ) → k < 8 → byte_at q (8 * k + 4) ≡ word_byte hi k)
-    (qr : (i : ℕ) → i < 64 → (i % 4 ≡ 0 → ⊥) → byte_at q i ≡ 0)
-    (pl : (k : ℕ) → k < 8 → word_byte lo k ≡ byte_at p (8 * k)) (ph : (k : ℕ) → k < 8 → word_byte hi k ≡ byte_at p (8 * k + 4))
-    (pr : (i : ℕ) → i < 64 → (i % 4 ≡ 0 → ⊥) → byte_at p i ≡ 0) where
-  pub same_at : (i : ℕ) → i < 64 → byte_at q i ≡ byte_at p i
-  same_at i low = elim (cases_eq (i % 8) 0) [
-    | inl even ↦
-        let e : 8 * (i / 8) ≡ i = omega arith in
-        ap (byte_at q) (sym e) ∙ ql (i / 8) (omega arith) ∙ pl (i / 8) (omega arith) ∙ ap (byte_at p) e
-    | inr odd ↦ elim (cases_eq (i % 8) 4) [
-      | inl half ↦
-          let e : 8 * (i / 8) + 4 ≡ i = omega arith in
-          ap (byte_at q) (sym e) ∙ qh (i / 8) (omega arith) ∙ ph (i / 8) (omega arith) ∙ ap (byte_at p) e
-      | inr other ↦ qr i low (λ e. omega arith) ∙ sym (pr i low (λ e. omega arith))
-    ]
+-- two lists of planes at whose positions the same two words stand, and nothing else
+pub same_at : (q p : List ℕ) (lo hi : ℕ) → AreAt q lo hi → HaveNoOthers q → AreAt p lo hi → HaveNoOthers p → (i : ℕ) → i < 64 → byte_at q i ≡ byte_at p i
+same_at q p lo hi hq nq hp np i low = elim (cases_eq (i % 8) 0) [
+  | inl even ↦
+      let e : 8 * (i / 8) ≡ i = omega arith in
+      ap (byte_at q) (sym e) ∙ hq.low (i / 8) (omega arith) ∙ sym (hp.low (i / 8) (omega arith)) ∙ ap (byte_at p) e
+  | inr odd ↦ elim (cases_eq (i % 8) 4) [
+    | inl half ↦
+        let e : 8 * (i / 8) + 4 ≡ i = omega arith in
+        ap (byte_at q) (sym e) ∙ hq.high (i / 8) (omega arith) ∙ sym (hp.high (i / 8) (omega arith)) ∙ ap (byte_at p) e
+    | inr other ↦ nq.zero_at i low (λ e. omega arith) ∙ sym (np.zero_at i low (λ e. omega arith))
   ]
+]

@@ -1,5 +1,5 @@
 -- SubBytes through the planes.
-use Rattle.std.proofs.Common.{◌≡◌, ℕ, ◌+◌, ◌*◌, ◌<◌, ◌==◌, true, List, [], ◌∷◌, bit_xor, refl, ap, ◌∙◌, arith}
+use Rattle.std.proofs.Common.{◌≡◌, ℕ, ◌+◌, ◌*◌, ◌<◌, ◌==◌, true, List, [], ◌∷◌, bit_xor, refl, sym, ap, ◌∙◌, arith}
 use lib.Bits.{xor_assoc, xor_zero_r}
 use Rattle.aes_spec.specs.Field.{S}
 use Rattle.aes_spec.proofs.Tables.{all_below, same_below}
@@ -8,6 +8,7 @@ use Rattle.aes_spec.specs.Planes.{byte_at}
 use Rattle.aes_spec.proofs.Linear.{byte-xor}
 use Rattle.aes_spec.specs.Rounds.{sub_bytes}
 use Rattle.softaes.specs.Blocks.{bytes_of}
+use Rattle.softaes.specs.Positions.{AreAt}
 use Rattle.softaes.proofs.BlockWords.{word_bytes, lifted}
 
 pub constant_right : all_below (λ k. word_byte 0x6363_6363_6363_6363 k == 0x63) 8 ≡ true
@@ -26,13 +27,13 @@ one_byte a c k i before after hk loaded gates stored =
     ∙ twice (S (word_byte a k))
 
 substituted_words : (a b c d : ℕ) (before after : List ℕ)
-    → ((k : ℕ) → k < 8 → byte_at before (8 * k) ≡ word_byte a k) → ((k : ℕ) → k < 8 → byte_at before (8 * k + 4) ≡ word_byte b k)
+    → AreAt before a b
     → ((i : ℕ) → i < 64 → byte_at after i ≡ bit_xor (S (byte_at before i)) 0x63)
-    → ((k : ℕ) → k < 8 → word_byte c k ≡ byte_at after (8 * k)) → ((k : ℕ) → k < 8 → word_byte d k ≡ byte_at after (8 * k + 4))
+    → AreAt after c d
     → word_bytes (bit_xor c 0x6363_6363_6363_6363) (bit_xor d 0x6363_6363_6363_6363) ≡ sub_bytes (word_bytes a b)
-substituted_words a b c d before after la lb gates sc sd =
-    let low = λ (k : ℕ) (hk : k < 8). one_byte a c k (8 * k) before after hk (la k hk) (gates (8 * k) (omega arith)) (sc k hk) in
-    let high = λ (k : ℕ) (hk : k < 8). one_byte b d k (8 * k + 4) before after hk (lb k hk) (gates (8 * k + 4) (omega arith)) (sd k hk) in
+substituted_words a b c d before after loaded gates stored =
+    let low = λ (k : ℕ) (hk : k < 8). one_byte a c k (8 * k) before after hk (loaded.low k hk) (gates (8 * k) (omega arith)) (sym (stored.low k hk)) in
+    let high = λ (k : ℕ) (hk : k < 8). one_byte b d k (8 * k + 4) before after hk (loaded.high k hk) (gates (8 * k + 4) (omega arith)) (sym (stored.high k hk)) in
     λ i.
     low 0 (omega arith) i
     ∷ low 1 (omega arith) i
@@ -53,9 +54,9 @@ substituted_words a b c d before after la lb gates sc sd =
     ∷ []
 
 pub substituted : (a b c d : ℕ) (before after : List ℕ)
-    → ((k : ℕ) → k < 8 → byte_at before (8 * k) ≡ word_byte a k) → ((k : ℕ) → k < 8 → byte_at before (8 * k + 4) ≡ word_byte b k)
+    → AreAt before a b
     → ((i : ℕ) → i < 64 → byte_at after i ≡ bit_xor (S (byte_at before i)) 0x63)
-    → ((k : ℕ) → k < 8 → word_byte c k ≡ byte_at after (8 * k)) → ((k : ℕ) → k < 8 → word_byte d k ≡ byte_at after (8 * k + 4))
+    → AreAt after c d
     → bytes_of (bit_xor c 0x6363_6363_6363_6363) (bit_xor d 0x6363_6363_6363_6363) ≡ sub_bytes (bytes_of a b)
-substituted a b c d before after la lb gates sc sd =
-    lifted sub_bytes (bit_xor c 0x6363_6363_6363_6363) (bit_xor d 0x6363_6363_6363_6363) a b (substituted_words a b c d before after la lb gates sc sd)
+substituted a b c d before after loaded gates stored =
+    lifted sub_bytes (bit_xor c 0x6363_6363_6363_6363) (bit_xor d 0x6363_6363_6363_6363) a b (substituted_words a b c d before after loaded gates stored)

@@ -43,6 +43,14 @@ impl Block {
         ensures { result ≡ input.now }
     {
         let [
+            a0,
+            a1,
+            a2,
+            a3,
+            a4,
+            a5,
+            a6,
+            a7,
             b0,
             b1,
             b2,
@@ -51,18 +59,10 @@ impl Block {
             b5,
             b6,
             b7,
-            b8,
-            b9,
-            b10,
-            b11,
-            b12,
-            b13,
-            b14,
-            b15,
         ] = *input;
         Block {
-            lo: u64::from_le_bytes([b0, b1, b2, b3, b4, b5, b6, b7]),
-            hi: u64::from_le_bytes([b8, b9, b10, b11, b12, b13, b14, b15]),
+            lo: u64::from_le_bytes([a0, a1, a2, a3, a4, a5, a6, a7]),
+            hi: u64::from_le_bytes([b0, b1, b2, b3, b4, b5, b6, b7]),
         }
     }
 
@@ -91,17 +91,18 @@ impl Block {
     pub fn to_bytes(&self) -> [u8; 16]
         ensures { result ≡ self.now }
     {
-        let [b0, b1, b2, b3, b4, b5, b6, b7] = self.lo.to_le_bytes();
-        let [b8, b9, b10, b11, b12, b13, b14, b15] = self.hi.to_le_bytes();
+        let [a0, a1, a2, a3, a4, a5, a6, a7] = self.lo.to_le_bytes();
+        let [b0, b1, b2, b3, b4, b5, b6, b7] = self.hi.to_le_bytes();
         [
-            b0, b1, b2, b3, b4, b5, b6, b7, b8, b9, b10, b11, b12, b13, b14, b15,
+            a0, a1, a2, a3, a4, a5, a6, a7, b0, b1, b2, b3, b4, b5, b6, b7,
         ]
     }
 
-    /// The exclusive or, byte by byte.
+    /// The exclusive or, byte by byte. With the same block once more it gives this block back.
     #[inline]
     pub fn xor(&self, other: &Block) -> Block
-        ensures { result ≡ xor_bytes self.now other.now }
+        ensures value { result ≡ xor_bytes self.now other.now }
+        ensures twice { xor_bytes result other.now ≡ self.now }
     {
         Block {
             lo: self.lo ^ other.lo,

@@ -6,7 +6,7 @@
 //!
 //! No function here looks up a table or branches on data.
 
-ghost use Rattle.std.specs.Prelude.{ℕ, ◌≡◌, ◌+◌, ◌-◌, ◌*◌, ◌%◌, ◌^◌, ◌<◌, bit_xor};
+ghost use Rattle.std.specs.Prelude.{ℕ, ◌≡◌, ◌+◌, ◌-◌, ◌*◌, ◌^◌, ◌<◌, List, bit_xor, length, slice_index};
 ghost use Rattle.std.specs.Int.{bit_at};
 ghost use Rattle.aes_spec.specs.Columns.{mixed, inv_mixed};
 ghost use Rattle.aes_spec.specs.Field.{S, IS};
@@ -16,6 +16,7 @@ ghost use Rattle.aes_spec.specs.Words.{word_byte};
 ghost use Rattle.softaes.specs.Columns.{pairs, opposite, twice};
 ghost use Rattle.softaes.specs.Inverse.{undo_linear};
 ghost use Rattle.softaes.specs.Places.{swapped_low, swapped_high};
+ghost use Rattle.softaes.specs.Positions.{AreAt, HaveNoOthers};
 
 /// The bit of weight 1 of each half byte; then those of weight 2, 4 and 8.
 const ONES: u64 = 0x1111_1111_1111_1111;
@@ -27,23 +28,27 @@ const FOURS: u64 = 0x4444_4444_4444_4444;
 const EIGHTS: u64 = 0x8888_8888_8888_8888;
 
 /// Exchanges the upper four bits of each byte of `lo` with the lower four bits of that byte of `hi`, and
-/// gives both words. Done twice, it gives back what was there.
+/// gives both words. Done once more, it gives the words back (`twice`).
 #[inline]
 pub fn swap_index_bits_6_2(lo: u64, hi: u64) -> (u64, u64)
     ensures low { (i : ℕ) → i < 64 → bit_at result.0 i ≡ swapped_low lo hi i }
     ensures high { (i : ℕ) → i < 64 → bit_at result.1 i ≡ swapped_high lo hi i }
+    ensures twice { (i : ℕ) → i < 64 → (swapped_low result.0 result.1 i ≡ bit_at lo i)
+        × (swapped_high result.0 result.1 i ≡ bit_at hi i) }
 {
     let differing = (lo ^ (hi << 4)) & 0xf0f0_f0f0_f0f0_f0f0;
     (lo ^ differing, hi ^ (differing >> 4))
 }
 
 /// The bytes of two words as planes: byte k of `lo` stands at position 8k, that of `hi` at position
-/// 8k + 4, for k from 0 to 7. At all other positions stands 0.
+/// 8k + 4, for k from 0 to 7. At all other positions stands 0. No other planes have this (`only`), so
+/// planes without other bits come back from [`store`].
 #[inline]
 pub fn load(lo: u64, hi: u64) -> [u64; 8]
-    ensures low { (k : ℕ) → k < 8 → byte_at result (8 * k) ≡ word_byte lo k }
-    ensures high { (k : ℕ) → k < 8 → byte_at result (8 * k + 4) ≡ word_byte hi k }
-    ensures rest { (i : ℕ) → i < 64 → (i % 4 ≡ 0 → ⊥) → byte_at result i ≡ 0 }
+    ensures placed { AreAt result lo hi }
+    ensures rest { HaveNoOthers result }
+    ensures only { (p : List ℕ) → length p ≡ 8 → ((i : ℕ) → slice_index p i < 2 ^ 64)
+        → AreAt p lo hi → HaveNoOthers p → result ≡ p }
 {
     let (low, high) = swap_index_bits_6_2(lo, hi);
     [
@@ -59,11 +64,12 @@ pub fn load(lo: u64, hi: u64) -> [u64; 8]
 }
 
 /// The two words whose bytes stand at the positions 8k and 8k + 4 of the planes. What stands at other
-/// positions is not read.
+/// positions is not read. No other words have this (`only`), so words come back from [`load`].
 #[inline]
 pub fn store(p: &[u64; 8]) -> (u64, u64)
-    ensures low { (k : ℕ) → k < 8 → word_byte result.0 k ≡ byte_at p.now (8 * k) }
-    ensures high { (k : ℕ) → k < 8 → word_byte result.1 k ≡ byte_at p.now (8 * k + 4) }
+    ensures placed { AreAt p.now result.0 result.1 }
+    ensures only { (lo hi : ℕ) → lo < 2 ^ 64 → hi < 2 ^ 64
+        → AreAt p.now lo hi → (result.0 ≡ lo) × (result.1 ≡ hi) }
 {
     let low = (p[7] & ONES) ^ ((p[6] << 1) & TWOS) ^ ((p[5] << 2) & FOURS) ^ ((p[4] << 3) & EIGHTS);
     let high = (p[3] & ONES)
@@ -211,7 +217,13 @@ fn gates(planes: &[u64; 8]) -> [u64; 8]
     [r28, r26, r14, r21, r25, r24, r23, r18]
 }
 
-/// The S-box without its constant 0x63, in place, at each of the 64 bit positions.
+/// The S-box without its constant 0x63, in place, at each of the 64 bit positions: the byte b of the eight
+/// bits there, plane 0 the highest, becomes `sbox(b) ^ 0x63`.
+///
+/// The inverse in the field is taken over a tower of fields, GF(4) below GF(16) below GF(256), in five
+/// stages: the forms that a product takes of both halves of the byte in GF(16); the norm of the byte, in
+/// GF(16); the inverse of the norm; its products with both halves, which are the halves of the byte's
+/// inverse; and the way back to the bits of AES, with the linear part of the affine map.
 #[inline(always)]
 pub fn sbox_core(planes: &mut [u64; 8])
     ensures { (i : ℕ) → i < 64 → byte_at planes.new i ≡ bit_xor (S (byte_at planes.old i)) 0x63 }
@@ -239,8 +251,9 @@ fn undo_linear(planes: &[u64; 8]) -> [u64; 8]
     ]
 }
 
-/// The inverse S-box of each byte under its constant, `b ^ 0x63`, in place, at each of the 64 bit
-/// positions: the S-box's gates between two linear maps, since inversion in the field is its own inverse.
+/// The inverse S-box of each byte with the constant added, in place, at each of the 64 bit positions: a
+/// byte b becomes the byte whose S-box is `b ^ 0x63`. It is the S-box's gates between two linear maps, since
+/// inversion in the field is its own inverse.
 #[inline(always)]
 pub fn inv_sbox_core(planes: &mut [u64; 8])
     ensures { (i : ℕ) → i < 64 → byte_at planes.new i ≡ IS (bit_xor (byte_at planes.old i) 0x63) }

@@ -21,6 +21,7 @@ const CONSTANT: u64 = 0x6363_6363_6363_6363;
 
 /// The rounds of AES (FIPS 197, section 5) over [`Block`], on gates: no table is looked up, and nothing
 /// branches on the block or the key.
+#[derive(Clone, Copy, Debug)]
 pub struct SoftAes;
 
 /// [`SoftAes`] by the name that upstream gives to a variant with another trade of speed for protection; here

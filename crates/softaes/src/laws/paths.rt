@@ -2,13 +2,16 @@
 //! gives what the two make of the same bytes.
 
 ghost use Rattle.std.specs.Prelude.{◌≡◌};
+ghost use Rattle.aes_spec.specs.KeySchedule.{expand, inverse_keys};
+ghost use Rattle.aes_spec.specs.Rounds.{R, RL, IR, IRL, inv_mix_columns};
 
 use crate::unprotected::{Block as TableBlock, SoftAes as TableAes, key_schedule as by_tables};
 use crate::{Block, SoftAes, key_schedule};
 
 /// The forward round.
 pub fn block_encrypt(block: &[u8; 16], rk: &[u8; 16]) -> (Block, TableBlock)
-    ensures { result.0 ≡ result.1 }
+    ensures value { result.0 ≡ R block.now rk.now }
+    ensures same { result.0 ≡ result.1 }
 {
     (
         SoftAes::block_encrypt(&Block::from_bytes(block), &Block::from_bytes(rk)),
@@ -18,7 +21,8 @@ pub fn block_encrypt(block: &[u8; 16], rk: &[u8; 16]) -> (Block, TableBlock)
 
 /// The last forward round.
 pub fn block_encrypt_last(block: &[u8; 16], rk: &[u8; 16]) -> (Block, TableBlock)
-    ensures { result.0 ≡ result.1 }
+    ensures value { result.0 ≡ RL block.now rk.now }
+    ensures same { result.0 ≡ result.1 }
 {
     (
         SoftAes::block_encrypt_last(&Block::from_bytes(block), &Block::from_bytes(rk)),
@@ -28,7 +32,8 @@ pub fn block_encrypt_last(block: &[u8; 16], rk: &[u8; 16]) -> (Block, TableBlock
 
 /// The inverse round.
 pub fn block_decrypt(block: &[u8; 16], rk: &[u8; 16]) -> (Block, TableBlock)
-    ensures { result.0 ≡ result.1 }
+    ensures value { result.0 ≡ IR block.now rk.now }
+    ensures same { result.0 ≡ result.1 }
 {
     (
         SoftAes::block_decrypt(&Block::from_bytes(block), &Block::from_bytes(rk)),
@@ -38,7 +43,8 @@ pub fn block_decrypt(block: &[u8; 16], rk: &[u8; 16]) -> (Block, TableBlock)
 
 /// The last inverse round.
 pub fn block_decrypt_last(block: &[u8; 16], rk: &[u8; 16]) -> (Block, TableBlock)
-    ensures { result.0 ≡ result.1 }
+    ensures value { result.0 ≡ IRL block.now rk.now }
+    ensures same { result.0 ≡ result.1 }
 {
     (
         SoftAes::block_decrypt_last(&Block::from_bytes(block), &Block::from_bytes(rk)),
@@ -48,7 +54,8 @@ pub fn block_decrypt_last(block: &[u8; 16], rk: &[u8; 16]) -> (Block, TableBlock
 
 /// InvMixColumns.
 pub fn inv_mix_block(block: &[u8; 16]) -> (Block, TableBlock)
-    ensures { result.0 ≡ result.1 }
+    ensures value { result.0 ≡ inv_mix_columns block.now }
+    ensures same { result.0 ≡ result.1 }
 {
     (
         key_schedule::inv_mix_block(Block::from_bytes(block)),
@@ -58,7 +65,8 @@ pub fn inv_mix_block(block: &[u8; 16]) -> (Block, TableBlock)
 
 /// The round keys of a key of 16 bytes.
 pub fn key_expansion_128(key: &[u8; 16]) -> ([Block; 11], [TableBlock; 11])
-    ensures { result.0 ≡ result.1 }
+    ensures value { result.0 ≡ expand key.now }
+    ensures same { result.0 ≡ result.1 }
 {
     (
         key_schedule::key_expansion_128(key),
@@ -68,7 +76,8 @@ pub fn key_expansion_128(key: &[u8; 16]) -> ([Block; 11], [TableBlock; 11])
 
 /// The round keys of a key of 24 bytes.
 pub fn key_expansion_192(key: &[u8; 24]) -> ([Block; 13], [TableBlock; 13])
-    ensures { result.0 ≡ result.1 }
+    ensures value { result.0 ≡ expand key.now }
+    ensures same { result.0 ≡ result.1 }
 {
     (
         key_schedule::key_expansion_192(key),
@@ -78,7 +87,8 @@ pub fn key_expansion_192(key: &[u8; 24]) -> ([Block; 13], [TableBlock; 13])
 
 /// The round keys of a key of 32 bytes.
 pub fn key_expansion_256(key: &[u8; 32]) -> ([Block; 15], [TableBlock; 15])
-    ensures { result.0 ≡ result.1 }
+    ensures value { result.0 ≡ expand key.now }
+    ensures same { result.0 ≡ result.1 }
 {
     (
         key_schedule::key_expansion_256(key),
@@ -88,7 +98,8 @@ pub fn key_expansion_256(key: &[u8; 32]) -> ([Block; 15], [TableBlock; 15])
 
 /// The round keys of the equivalent inverse cipher for a key of 16 bytes.
 pub fn inverse_key_schedule_128(key: &[u8; 16]) -> ([Block; 11], [TableBlock; 11])
-    ensures { result.0 ≡ result.1 }
+    ensures value { result.0 ≡ inverse_keys (expand key.now) }
+    ensures same { result.0 ≡ result.1 }
 {
     (
         key_schedule::inverse_key_schedule_128(&key_schedule::key_expansion_128(key)),
@@ -98,7 +109,8 @@ pub fn inverse_key_schedule_128(key: &[u8; 16]) -> ([Block; 11], [TableBlock; 11
 
 /// The round keys of the equivalent inverse cipher for a key of 24 bytes.
 pub fn inverse_key_schedule_192(key: &[u8; 24]) -> ([Block; 13], [TableBlock; 13])
-    ensures { result.0 ≡ result.1 }
+    ensures value { result.0 ≡ inverse_keys (expand key.now) }
+    ensures same { result.0 ≡ result.1 }
 {
     (
         key_schedule::inverse_key_schedule_192(&key_schedule::key_expansion_192(key)),
@@ -108,7 +120,8 @@ pub fn inverse_key_schedule_192(key: &[u8; 24]) -> ([Block; 13], [TableBlock; 13
 
 /// The round keys of the equivalent inverse cipher for a key of 32 bytes.
 pub fn inverse_key_schedule_256(key: &[u8; 32]) -> ([Block; 15], [TableBlock; 15])
-    ensures { result.0 ≡ result.1 }
+    ensures value { result.0 ≡ inverse_keys (expand key.now) }
+    ensures same { result.0 ≡ result.1 }
 {
     (
         key_schedule::inverse_key_schedule_256(&key_schedule::key_expansion_256(key)),

@@ -107,10 +107,11 @@ impl Block {
         ]
     }
 
-    /// The exclusive or, byte by byte.
+    /// The exclusive or, byte by byte. With the same block once more it gives this block back.
     #[inline]
     pub fn xor(&self, other: &Block) -> Block
-        ensures { result ≡ xor_bytes self.now other.now }
+        ensures value { result ≡ xor_bytes self.now other.now }
+        ensures twice { xor_bytes result other.now ≡ self.now }
     {
         Block {
             c0: self.c0 ^ other.c0,

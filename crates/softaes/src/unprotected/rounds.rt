@@ -14,6 +14,7 @@ use crate::unprotected::tables::{
 };
 
 /// The rounds of AES (FIPS 197, section 5) over this module's [`Block`], by tables.
+#[derive(Clone, Copy, Debug)]
 pub struct SoftAes;
 
 impl SoftAes {

@@ -2,7 +2,7 @@
 use Rattle.std.proofs.Common.{◌≡◌, ◌+◌, ◌*◌, bit_xor, ap, ◌∙◌, arith}
 use Rattle.aes_spec.specs.Words.{word_byte}
 use Rattle.softaes.specs.Columns.{pairs, opposite, twice}
-use Rattle.softaes.proofs.Mixed.{mixed_columns}
+use Rattle.softaes.proofs.MixedColumns.{mixed_columns}
 use Rattle.softaes.proofs.circuit.mix_columns.Goals as goal
 
 pub returns : goal.returns

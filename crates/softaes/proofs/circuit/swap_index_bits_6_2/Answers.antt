@@ -1,5 +1,6 @@
 -- Each bit by its place in the two words.
 use Rattle.std.proofs.Common.{arith}
+use Rattle.softaes.proofs.Back.{low_again, high_again}
 use Rattle.softaes.proofs.Swapped.{bit-swapped_low, bit-swapped_high}
 use Rattle.softaes.proofs.circuit.swap_index_bits_6_2.Goals as goal
 
@@ -8,3 +9,9 @@ returns-clause-low c i low = bit-swapped_low c.args.lo c.args.hi (omega arith) (
 
 pub returns-clause-high : goal.returns-clause-high
 returns-clause-high c i low = bit-swapped_high c.args.lo c.args.hi (omega arith) (omega arith) i low
+
+pub returns-clause-twice : goal.returns-clause-twice
+returns-clause-twice c i low = (
+  low_again c.args.lo c.args.hi _ _ (returns-clause-low c) (returns-clause-high c) i low,
+  high_again c.args.lo c.args.hi _ _ (returns-clause-low c) (returns-clause-high c) i low,
+)

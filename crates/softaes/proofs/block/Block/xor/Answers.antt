@@ -1,12 +1,13 @@
 -- The exclusive or of words is that of their bytes.
-use Rattle.std.proofs.Common.{◌∙◌}
+use Rattle.std.proofs.Common.{◌∙◌, ℕ, List, ap}
 use Rattle.std.proofs.lemmas.Nat.{xor_lt}
 use Rattle.aes_spec.specs.Bytes.{xor_bytes}
+use Rattle.aes_spec.proofs.ByteLists.{xor_twice}
 use Rattle.softaes.proofs.BlockWords.{bytes_of-xor}
 use Rattle.softaes.proofs.block.Block.xor.Goals as goal
 
-pub returns : goal.returns
-returns c =
+pub returns-clause-value : goal.returns-clause-value
+returns-clause-value c =
     bytes_of-xor c.self.inside.lo c.self.inside.hi c.other.inside.lo c.other.inside.hi
     ∙ (λ i. xor_bytes (c.self.view_is i) (c.other.view_is i))
 
@@ -15,3 +16,6 @@ invariant_of-result c =
     let a = c.self.inside in
     let b = c.other.inside in
     (xor_lt 64 a.lo b.lo c.self.invariant.0 c.other.invariant.0, xor_lt 64 a.hi b.hi c.self.invariant.1 c.other.invariant.1)
+
+pub returns-clause-twice : goal.returns-clause-twice
+returns-clause-twice c = ap (λ (v : List ℕ). xor_bytes v c.args.other.now) (returns-clause-value c) ∙ xor_twice c.args.self.now c.args.other.now

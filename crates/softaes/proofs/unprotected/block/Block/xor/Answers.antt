@@ -1,12 +1,13 @@
 -- The exclusive or of words is that of their bytes.
-use Rattle.std.proofs.Common.{◌∙◌}
+use Rattle.std.proofs.Common.{◌∙◌, ℕ, List, ap}
 use Rattle.std.proofs.lemmas.Nat.{xor_lt}
 use Rattle.aes_spec.specs.Bytes.{xor_bytes}
+use Rattle.aes_spec.proofs.ByteLists.{xor_twice}
 use Rattle.softaes.proofs.ColumnWords.{columns_of-xor}
 use Rattle.softaes.proofs.unprotected.block.Block.xor.Goals as goal
 
-pub returns : goal.returns
-returns c =
+pub returns-clause-value : goal.returns-clause-value
+returns-clause-value c =
     let a = c.self.inside in
     let b = c.other.inside in
     columns_of-xor a.c0 a.c1 a.c2 a.c3 b.c0 b.c1 b.c2 b.c3
@@ -19,3 +20,6 @@ invariant_of-result c =
     let h = c.self.invariant in
     let k = c.other.invariant in
     (xor_lt 32 a.c0 b.c0 h.0 k.0, xor_lt 32 a.c1 b.c1 h.1 k.1, xor_lt 32 a.c2 b.c2 h.2 k.2, xor_lt 32 a.c3 b.c3 h.3 k.3)
+
+pub returns-clause-twice : goal.returns-clause-twice
+returns-clause-twice c = ap (λ (v : List ℕ). xor_bytes v c.args.other.now) (returns-clause-value c) ∙ xor_twice c.args.self.now c.args.other.now
