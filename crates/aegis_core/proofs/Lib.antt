@@ -10,3 +10,5 @@ pub mod Laws
 pub mod RowLemmas
 pub mod LaneLemmas256
 pub mod StreamLemmas
+pub mod FrontLemmas
+pub mod PiecesLemmas

@@ -1,7 +1,6 @@
 -- A keystream added to bytes part by part.
-use Rattle.std.proofs.Common.{◌≡◌, ℕ, ◌+◌, ◌-◌, ◌*◌, ◌/◌, ◌%◌, ◌<◌, ◌≤◌, List, [], ◌∷◌, ◌++◌, length, take, drop, replicate, refl, sym, ap, ◌∙◌, arith, subst, length-append, length-drop}
-use Rattle.std.proofs.lemmas.List.{append-nil, append_assoc, take_all, take_at, drop_at, take-append-drop, length-take-le, length-replicate, take-replicate, drop-replicate, take_rest}
-use Rattle.std.proofs.lemmas.List.{drop_all}
+use Rattle.std.proofs.Common.{◌≡◌, ℕ, ◌+◌, ◌-◌, ◌*◌, ◌/◌, ◌%◌, ◌<◌, ◌≤◌, List, [], ◌++◌, length, take, drop, replicate, refl, sym, ap, ◌∙◌, arith, subst, length-drop}
+use Rattle.std.proofs.lemmas.List.{append-nil, take_at, drop_at, take-append-drop, length-take-le, length-replicate, take-replicate, drop-replicate}
 use Rattle.std.proofs.Math.Nat.{div-add-mod', mod-lt}
 use borrow.Rule.Slice.PartMut.{put_mid}
 use Rattle.aes_spec.specs.Bytes.{xor_bytes}

@@ -10,3 +10,5 @@ pub mod Sealing
 pub mod Keys
 pub mod Laws
 pub mod Ciphers
+pub mod Pieces
+pub mod Written

@@ -10,7 +10,7 @@ use crate::bytes::{padded_block, xor_into};
 use crate::lane_state::LaneState;
 
 // Absorbs less than a block.
-fn absorb_tail<S: LaneState>(state: &mut S, tail: &[u8])
+pub fn absorb_tail<S: LaneState>(state: &mut S, tail: &[u8])
     requires { length tail.now < (S.family state.old).rate }
     ensures same { S.family state.new ≡ S.family state.old }
     ensures updated { S.lanes state.new ≡ absorbed_tail (S.family state.old) (S.lanes state.old) tail.now }
@@ -54,6 +54,7 @@ fn decrypt_tail<S: LaneState>(state: &mut S, text: &mut [u8])
 /// Absorbs `input`, padded with zeros to whole blocks.
 pub fn absorb_all<S: LaneState>(state: &mut S, input: &[u8])
     ensures same { S.family state.new ≡ S.family state.old }
+    ensures rate { 0 < (S.family state.old).rate }
     ensures updated { S.lanes state.new ≡ absorbed (S.family state.old) (S.lanes state.old) input.now }
 {
     let rate = state.rate();

@@ -21,3 +21,6 @@ returns-clause-updated g c =
     absorb_end (g.S.LaneState.family c.args.state.now) (g.S.LaneState.family c.each.state) _ _ _ c.args.input.now _ c.each.i (pos_along c.rate-rate.result _ c.rate-rate.ensures.rate c.rate-rate.ensures.some)
     c.each.invariant.same n c.each.invariant.lanes
     (rest_at c.args.input.now c.each.i _ _ _ (sym whole) c.rate-rate.ensures.rate) c.absorb_tail.ensures.updated
+
+pub returns-clause-rate : goal.returns-clause-rate
+returns-clause-rate g c = pos_along c.rate-rate.result _ c.rate-rate.ensures.rate c.rate-rate.ensures.some

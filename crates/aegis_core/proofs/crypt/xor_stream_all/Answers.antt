@@ -1,4 +1,4 @@
-use Rattle.std.proofs.Common.{◌≡◌, ◌+◌, ◌*◌, ◌/◌, ◌-◌, ◌<◌, ◌≤◌, ℕ, List, length, replicate, refl, sym, ap, ◌∙◌, arith}
+use Rattle.std.proofs.Common.{◌≡◌, ◌+◌, ◌*◌, ◌/◌, ◌-◌, ◌<◌, ◌≤◌, ℕ, length, replicate, refl, sym, ap, ◌∙◌, arith}
 use Rattle.aegis_core.specs.Blocks.{first_blocks}
 use Rattle.aegis_core.proofs.LoopLemmas.{pos_along, block_fits, whole_fits, back_to}
 use Rattle.aegis_core.proofs.StreamLemmas.{left_short, stream_none, stream_step, stream_end}

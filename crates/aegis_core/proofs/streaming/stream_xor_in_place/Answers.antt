@@ -1,4 +1,3 @@
-use Rattle.std.proofs.Common.{length}
 use Rattle.aegis_core.specs.declared.variant.Variant.TheVariants.{Aegis128L, Aegis128X2, Aegis128X4, Aegis256, Aegis256X2, Aegis256X4}
 use Rattle.aegis_core.specs.Sealing.{family_of}
 use Rattle.aegis_core.proofs.VariantLemmas.{started, xor_stream_as}

@@ -1,0 +1,48 @@
+use Rattle.std.proofs.Common.{◌≡◌, ◌+◌, ◌-◌, ◌<◌, ◌≤◌, ◌++◌, ℕ, List, length, take, drop, sym, ap, ◌∙◌, arith, subst}
+use Rattle.std.proofs.lemmas.List.{append_assoc, take_all}
+use Rattle.std.proofs.lemmas.Slice.{take-put_mid, drop-put_mid}
+use Rattle.aegis_core.specs.Family.{Family, cipher_text, keyed}
+use Rattle.aegis_core.specs.Pieces.{Holds}
+use Rattle.aegis_core.proofs.FrontLemmas.{stream_more, next_part, rest_more, part_len_is}
+use Rattle.aegis_core.proofs.LoopLemmas.{pos_along, back_to}
+use Rattle.aegis_core.proofs.pieces.Pieces.encrypt.Goals as goal
+
+pub parts-preserved : goal.parts-preserved
+parts-preserved g c =
+    let family = g.S.LaneState.family in
+    let lanes = g.S.LaneState.lanes in
+    let i = c.parts.invariant in
+    let at : ℕ = c.parts.at in
+    let n : ℕ = c.part_len-n.result in
+    let old = c.args.piece.now in
+    let cur = c.parts.piece in
+    let part = take (at + n - at) (drop at cur) in
+    let left : n ≤ length c.parts.piece - at = c.part_len-n.ensures.left in
+    let long : length c.parts.piece ≡ length c.args.piece.now = c.parts.auto.piece in
+    let test : at < length c.parts.piece = c.parts-test.true in
+    let lp : length (take (at + n - at) (drop at c.parts.piece)) ≡ n = part_len_is c.parts.piece at n (omega arith) in
+    let ln : length c.encrypt_part.new.piece ≡ n = c.encrypt_part.auto.piece ∙ lp in
+    let same = back_to at n in
+    record {
+      within = omega arith;
+      same = c.encrypt_part.ensures.same ∙ i.same;
+      total = c.encrypt_part.ensures.total ∙ omega (arith, i.total);
+      rest = drop-put_mid at (at + n - at) cur c.encrypt_part.new.piece (at + n) (omega arith) (omega arith) (ln ∙ sym same) ∙ rest_more old cur at n i.rest;
+      holds = λ f key nonce ad m h.
+          let P : List ℕ → Type 0 = λ v. Holds family lanes f c.encrypt_part.new.self key nonce ad v in
+          subst P (append_assoc m (take at old) part ∙ ap (λ (v : List ℕ). m ++ v) (next_part old cur at n i.rest))
+          (c.encrypt_part.ensures.holds f key nonce ad (m ++ take at old) (i.holds f key nonce ad m h));
+      text = λ f key nonce ad m h.
+          let er : c.rate-rate.result ≡ f.rate = c.rate-rate.ensures.rate ∙ ap (λ (v : Family). v.rate) h.same in
+          let pos : 0 < f.rate = pos_along c.rate-rate.result f.rate er c.rate-rate.ensures.some in
+          let new = c.encrypt_part.ensures.text f key nonce ad (m ++ take at old) (i.holds f key nonce ad m h) in
+          take-put_mid at (at + n - at) cur c.encrypt_part.new.piece (at + n) (omega arith) (omega arith)
+          ∙ stream_more f (keyed f key nonce ad) m (take at old) part (take at cur) c.encrypt_part.new.piece pos (i.text f key nonce ad m h) new
+          ∙ ap (λ (v : List ℕ). drop (length m) (cipher_text f (keyed f key nonce ad) v)) (append_assoc m (take at old) part ∙ ap (λ (v : List ℕ). m ++ v) (next_part old cur at n i.rest));
+    }
+
+pub returns-clause-holds : goal.returns-clause-holds
+returns-clause-holds g c = λ f key nonce ad m h.
+    let P : List ℕ → Type 0 = λ v. Holds g.S.LaneState.family g.S.LaneState.lanes f c.parts.self key nonce ad (m ++ v) in
+    let all : length c.args.piece.now ≤ c.parts.at = omega (arith, c.parts.auto.piece, c.parts-test.false) in
+    subst P (take_all c.parts.at c.args.piece.now all) (c.parts.invariant.holds f key nonce ad m h)

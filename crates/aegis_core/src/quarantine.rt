@@ -1,0 +1,76 @@
+//! A lent destination whose bytes come out only at the end.
+
+ghost use Rattle.std.specs.Prelude.{◌≡◌, ◌↔◌, ◌+◌, ◌≤◌, ◌++◌, [], length, replicate, IsOk, IfErr};
+
+use crate::error::Error;
+use std::marker::Model;
+
+/// A destination, and how much of its front is written. Contracts see the written bytes and how many
+/// there may be.
+#[derive(Drop)]
+pub struct Quarantine<'a> {
+    buf: &'a mut [u8],
+    len: usize,
+}
+
+impl<'a> Model for Quarantine<'a> {
+    ghost use Rattle.std.specs.Prelude.{◌≤◌, length, take};
+    ghost use Rattle.aegis_core.specs.Written.{Written};
+
+    ghost Value = { Written };
+
+    ghost view = { λ q. record { bytes = take q.len q.buf.now; capacity = length q.buf.now } };
+
+    ghost invariant = { λ q. q.len ≤ length q.buf.now };
+}
+
+impl<'a> Quarantine<'a> {
+    /// The destination, with nothing written.
+    pub fn new(buf: &'a mut [u8]) -> Quarantine<'a>
+        ensures bytes { result.bytes ≡ [] }
+        ensures capacity { result.capacity ≡ length buf.old }
+    {
+        Quarantine { buf, len: 0 }
+    }
+
+    /// Whether `len` more bytes have room: `OutputBufferTooSmall` exactly where they have not.
+    pub fn fits(&self, len: usize) -> Result<(), Error>
+        ensures ok { IsOk result ↔ (length self.now.bytes + len ≤ self.now.capacity) }
+        ensures refused { IfErr result (λ e. e ≡ Error.OutputBufferTooSmall) }
+    {
+        if len <= self.buf.len() - self.len {
+            Ok(())
+        } else {
+            Err(Error::OutputBufferTooSmall)
+        }
+    }
+
+    /// Appends a piece that has room.
+    pub fn put(&mut self, piece: &[u8])
+        requires { length self.old.bytes + length piece.now ≤ self.old.capacity }
+        ensures bytes { self.new.bytes ≡ self.old.bytes ++ piece.now }
+        ensures capacity { self.new.capacity ≡ self.old.capacity }
+    {
+        let end = self.len + piece.len();
+        self.buf[self.len..end].copy_from_slice(piece);
+        self.len = end;
+    }
+
+    /// The written bytes.
+    pub fn release(self) -> &'a mut [u8]
+        ensures { result.now ≡ self.entry.bytes }
+    {
+        let Quarantine { buf, len } = self;
+        &mut buf[..len]
+    }
+
+    /// Overwrites the written bytes with zeros and forgets them.
+    pub fn zero(&mut self)
+        ensures bytes { self.new.bytes ≡ [] }
+        ensures capacity { self.new.capacity ≡ self.old.capacity }
+    {
+        let len = self.len;
+        self.buf[..len].fill(0);
+        self.len = 0;
+    }
+}
