@@ -12,3 +12,4 @@ pub mod LaneLemmas256
 pub mod StreamLemmas
 pub mod FrontLemmas
 pub mod PiecesLemmas
+pub mod StreamsLemmas

@@ -7,11 +7,11 @@ use Rattle.aegis_core.specs.declared.error.Error.{Error}
 use Rattle.aegis_core.specs.declared.error.Error.TheVariants.{InvalidTag, OutputBufferTooSmall, MessageTooLong, OutOfMemory}
 
 -- the key of a cipher
-abbrev pub key_of : {K : Type 0} {n t : ℕ} → Cipher K n t → List ℕ
+abbrev pub key_of : {K S : Type 0} {n t : ℕ} → Cipher K S n t → List ℕ
 key_of c = c.key
 
 -- its nonce
-abbrev pub nonce_of : {K : Type 0} {n t : ℕ} → Cipher K n t → List ℕ
+abbrev pub nonce_of : {K S : Type 0} {n t : ℕ} → Cipher K S n t → List ℕ
 nonce_of c = c.nonce
 
 -- why a cipher text is refused: no message has this tag, or memory is short

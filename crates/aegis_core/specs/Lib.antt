@@ -12,3 +12,4 @@ pub mod Laws
 pub mod Ciphers
 pub mod Pieces
 pub mod Written
+pub mod Streams

@@ -1,51 +1,38 @@
 //! The calls that the six ciphers share.
 
-ghost use Rattle.std.specs.Prelude.{◌≡◌, ◌⊎◌, ◌^◌, ◌<◌, Some, None, IfOk, IfErr, OnOk, OnErr, length, replicate};
+ghost use Rattle.std.specs.Prelude.{◌≡◌, ◌⊎◌, ◌^◌, ◌<◌, [], Some, None, IfOk, IfErr, OnOk, OnErr, length, replicate};
 ghost use Rattle.aes_spec.specs.Bytes.{xor_bytes};
-ghost use Rattle.aegis_core.specs.Sealing.{key_len, nonce_len, seal, stream, Unseals};
+ghost use Rattle.aegis_core.specs.Sealing.{seal, stream, Unseals};
 ghost use Rattle.aegis_core.specs.Ciphers.{key_of, nonce_of, RefusesText};
-ghost use Rattle.aegis_core.specs.declared.variant.Variant.{Variant};
+ghost use Rattle.aegis_core.specs.Streams.{Encrypts, Decrypts, encrypted_total, decrypted_total, decrypted_bytes, decrypted_room};
 
+use crate::decryptor::Decryptor;
+use crate::encryptor::Encryptor;
 use crate::error::Error;
+use crate::kind::CipherKind;
+use crate::lane_state::LaneState;
 use crate::sealing::{seal_in_place, unseal_in_place};
 use crate::streaming::{stream_in_place, stream_xor_in_place};
-use crate::variant::Variant;
 use std::alloc::Global;
 use std::fmt;
 use std::marker::PhantomData;
 
-/// What tells one cipher from another, with keys and nonces of `KEY_BYTES` bytes.
-pub trait CipherKind<const KEY_BYTES: usize>: Copy {
-    /// The cipher.
-    ghost variant: { Variant };
-
-    /// The cipher.
-    fn variant() -> Variant
-        ensures { result ≡ variant };
-
-    /// The name of the cipher's type.
-    fn name() -> &'static str;
-
-    /// Its keys and nonces have this length.
-    ghost key: { key_len variant ≡ KEY_BYTES };
-
-    ghost nonce: { nonce_len variant ≡ KEY_BYTES };
-}
-
 /// A cipher with its key and nonce, and with tags of `TAG_BYTES` bytes, 16 or 32. Associated data and
 /// message have at most 2^61 - 1 bytes.
 #[derive(Clone, Copy)]
-pub struct Cipher<K, const KEY_BYTES: usize, const TAG_BYTES: usize> {
+pub struct Cipher<K, S, const KEY_BYTES: usize, const TAG_BYTES: usize> {
     key: [u8; KEY_BYTES],
     nonce: [u8; KEY_BYTES],
     kind: PhantomData<K>,
+    lanes: PhantomData<S>,
 }
 
-impl<K: CipherKind<KEY_BYTES>, const KEY_BYTES: usize, const TAG_BYTES: usize> Cipher<
-    K,
-    KEY_BYTES,
-    TAG_BYTES,
-> {
+impl<
+    K: CipherKind<S, KEY_BYTES>,
+    S: LaneState,
+    const KEY_BYTES: usize,
+    const TAG_BYTES: usize,
+> Cipher<K, S, KEY_BYTES, TAG_BYTES> {
     /// The cipher under this key and nonce.
     pub fn new(key: &[u8; KEY_BYTES], nonce: &[u8; KEY_BYTES]) -> Self
         ensures key { key_of result ≡ key.now }
@@ -55,6 +42,7 @@ impl<K: CipherKind<KEY_BYTES>, const KEY_BYTES: usize, const TAG_BYTES: usize> C
             key: *key,
             nonce: *nonce,
             kind: PhantomData,
+            lanes: PhantomData,
         }
     }
 
@@ -132,6 +120,30 @@ impl<K: CipherKind<KEY_BYTES>, const KEY_BYTES: usize, const TAG_BYTES: usize> C
         Ok(mc)
     }
 
+    /// A message to be encrypted piece by piece, after this associated data.
+    pub fn encryptor(&self, associated_data: &[u8]) -> Encryptor<K, S, KEY_BYTES, TAG_BYTES>
+        requires { length associated_data.now < 2 ^ 61 }
+        ensures total { encrypted_total result ≡ 0 }
+        ensures holds { Encrypts S.family S.lanes K.variant result (key_of self.now) (nonce_of self.now) associated_data.now [] }
+    {
+        Encryptor::start(&self.key, &self.nonce, associated_data)
+    }
+
+    /// A message to be decrypted piece by piece into `plaintext`, after this associated data.
+    pub fn decryptor<'a>(
+        &self,
+        associated_data: &[u8],
+        plaintext: &'a mut [u8],
+    ) -> Decryptor<'a, K, S, KEY_BYTES, TAG_BYTES>
+        requires { length associated_data.now < 2 ^ 61 }
+        ensures total { decrypted_total result ≡ 0 }
+        ensures prefix { decrypted_bytes result ≡ [] }
+        ensures room { decrypted_room result ≡ length plaintext.old }
+        ensures holds { Decrypts S.family S.lanes K.variant result (key_of self.now) (nonce_of self.now) associated_data.now [] }
+    {
+        Decryptor::start(&self.key, &self.nonce, associated_data, plaintext)
+    }
+
     /// Fills `out` with the keystream: the cipher text of zeros.
     pub fn stream(self, out: &mut [u8])
         ensures { out.new ≡ stream K.variant (key_of self) (nonce_of self) (length out.old) }
@@ -157,9 +169,13 @@ impl<K: CipherKind<KEY_BYTES>, const KEY_BYTES: usize, const TAG_BYTES: usize> C
     }
 }
 
-impl<K: CipherKind<KEY_BYTES>, const KEY_BYTES: usize, const TAG_BYTES: usize> fmt::Debug
-    for Cipher<K, KEY_BYTES, TAG_BYTES> {
+impl<
+    K: CipherKind<S, KEY_BYTES>,
+    S: LaneState,
+    const KEY_BYTES: usize,
+    const TAG_BYTES: usize,
+> fmt::Debug for Cipher<K, S, KEY_BYTES, TAG_BYTES> {
     fn fmt<W: fmt::Write>(&self, f: &mut fmt::Formatter<W>) -> fmt::Result {
-        f.debug_struct(K::name()).finish_non_exhaustive()
+        f.debug_struct(K::names().cipher).finish_non_exhaustive()
     }
 }

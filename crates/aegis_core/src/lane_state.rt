@@ -43,6 +43,10 @@ pub trait LaneState: Copy {
         ensures text { block.new ≡ xor_bytes block.old ((family self.old).keystream (lanes self.old)) }
         ensures updated { lanes self.new ≡ (family self.old).update (lanes self.old) block.new };
 
+    /// Overwrites the blocks with zeros.
+    fn clear(&mut self)
+        ensures { family self.new ≡ family self.old };
+
     /// The tag, with these two numbers in the places of the lengths in bits.
     fn finalise(self, first: u64, second: u64, tag: &mut [u8])
         requires { (length tag.old ≡ 16) ⊎ (length tag.old ≡ 32) }

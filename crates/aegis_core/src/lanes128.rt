@@ -307,6 +307,24 @@ impl<B: RoundBlock> LaneState for Lanes128<B> {
         self.absorb(block);
     }
 
+    fn clear(&mut self) {
+        let zero = B::from_bytes(&[0; 16]);
+        let lane = Lane128 {
+            s0: zero,
+            s1: zero,
+            s2: zero,
+            s3: zero,
+            s4: zero,
+            s5: zero,
+            s6: zero,
+            s7: zero,
+        };
+        self.l0 = lane;
+        self.l1 = lane;
+        self.l2 = lane;
+        self.l3 = lane;
+    }
+
     fn finalise(self, first: u64, second: u64, tag: &mut [u8]) {
         let done = self.finished(first, second);
         if tag.len() == 32 {

@@ -5,6 +5,9 @@ ghost use Rattle.std.specs.Prelude.{◌^◌, ◌<◌, ◌≤◌};
 use crate::bytes::xor_into;
 use crate::crypt::{absorb_all, absorb_tail};
 use crate::lane_state::LaneState;
+use crate::lanes128::Lanes128;
+use crate::lanes256::Lanes256;
+use softaes::Block;
 use std::alloc::AllocError;
 
 const MOST: u64 = 0x1fff_ffff_ffff_ffff;
@@ -193,6 +196,14 @@ impl<S: LaneState> Pieces<S> {
         }
     }
 
+    /// Overwrites the state with zeros.
+    pub fn clear(&mut self) {
+        self.lanes.clear();
+        self.block = [0; 128];
+        self.total = 0;
+        self.ad_len = 0;
+    }
+
     // The lanes after the last, short block.
     fn ended(&self) -> S
         ensures rate { 0 < (S.family self.now.lanes).rate }
@@ -224,5 +235,45 @@ impl<S: LaneState> Pieces<S> {
     {
         self.ended()
             .finalise(8 * self.total, 8 * tag.len() as u64, tag);
+    }
+}
+
+/// A message in pieces for the AEGIS-128 family.
+pub type Pieces128 = Pieces<Lanes128<Block>>;
+
+/// A message in pieces for the AEGIS-256 family.
+pub type Pieces256 = Pieces<Lanes256<Block>>;
+
+impl Pieces<Lanes128<Block>> {
+    ghost use Rattle.std.specs.Prelude.{◌≡◌, [], length};
+    ghost use Rattle.aegis_core.specs.Family.{family_128};
+    ghost use Rattle.aegis_core.specs.Lanes.{IsLaneCount};
+    ghost use Rattle.aegis_core.specs.Pieces.{Holds, total_of};
+
+    /// The empty message on `lanes` lanes, 1, 2 or 4, under key and nonce, after associated data.
+    pub fn new(lanes: usize, key: &[u8; 16], nonce: &[u8; 16], ad: &[u8]) -> Pieces128
+        requires lanes { IsLaneCount lanes }
+        requires ad_len { length ad.now < 2 ^ 61 }
+        ensures total { total_of result ≡ 0 }
+        ensures holds { Holds ⟦<Lanes128<Block> as LaneState>⟧.family ⟦<Lanes128<Block> as LaneState>⟧.lanes (family_128 lanes) result key.now nonce.now ad.now [] }
+    {
+        Pieces::start(Lanes128::new(lanes, key, nonce), ad)
+    }
+}
+
+impl Pieces<Lanes256<Block>> {
+    ghost use Rattle.std.specs.Prelude.{◌≡◌, [], length};
+    ghost use Rattle.aegis_core.specs.Family.{family_256};
+    ghost use Rattle.aegis_core.specs.Lanes.{IsLaneCount};
+    ghost use Rattle.aegis_core.specs.Pieces.{Holds, total_of};
+
+    /// The empty message on `lanes` lanes, 1, 2 or 4, under key and nonce, after associated data.
+    pub fn new(lanes: usize, key: &[u8; 32], nonce: &[u8; 32], ad: &[u8]) -> Pieces256
+        requires lanes { IsLaneCount lanes }
+        requires ad_len { length ad.now < 2 ^ 61 }
+        ensures total { total_of result ≡ 0 }
+        ensures holds { Holds ⟦<Lanes256<Block> as LaneState>⟧.family ⟦<Lanes256<Block> as LaneState>⟧.lanes (family_256 lanes) result key.now nonce.now ad.now [] }
+    {
+        Pieces::start(Lanes256::new(lanes, key, nonce), ad)
     }
 }

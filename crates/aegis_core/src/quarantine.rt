@@ -1,8 +1,12 @@
 //! A lent destination whose bytes come out only at the end.
 
-ghost use Rattle.std.specs.Prelude.{◌≡◌, ◌↔◌, ◌+◌, ◌≤◌, ◌++◌, [], length, replicate, IsOk, IfErr};
+ghost use Rattle.std.specs.Prelude.{◌≡◌, ◌↔◌, ℕ, ◌+◌, ◌^◌, ◌<◌, ◌≤◌, ◌++◌, List, [], length, take, drop, IsOk, IfErr};
+ghost use Rattle.aegis_core.specs.Family.{Family, cipher_text, keyed};
+ghost use Rattle.aegis_core.specs.Pieces.{Holds, total_of};
 
 use crate::error::Error;
+use crate::lane_state::LaneState;
+use crate::pieces::Pieces;
 use std::marker::Model;
 
 /// A destination, and how much of its front is written. Contracts see the written bytes and how many
@@ -53,6 +57,25 @@ impl<'a> Quarantine<'a> {
     {
         let end = self.len + piece.len();
         self.buf[self.len..end].copy_from_slice(piece);
+        self.len = end;
+    }
+
+    // Appends the decryption of a piece that has room.
+    pub fn put_decrypted<S: LaneState>(&mut self, pieces: &mut Pieces<S>, piece: &[u8])
+        requires room { length self.old.bytes + length piece.now ≤ self.old.capacity }
+        requires fits { total_of pieces.old + length piece.now < 2 ^ 61 }
+        ensures capacity { self.new.capacity ≡ self.old.capacity }
+        ensures long { length self.new.bytes ≡ length self.old.bytes + length piece.now }
+        ensures total { total_of pieces.new ≡ total_of pieces.old + length piece.now }
+        ensures holds { (f : Family) (key nonce ad : List ℕ) → Holds S.family S.lanes f pieces.old key nonce ad self.old.bytes
+            → Holds S.family S.lanes f pieces.new key nonce ad self.new.bytes }
+        ensures text { (f : Family) (key nonce ad : List ℕ) → Holds S.family S.lanes f pieces.old key nonce ad self.old.bytes
+            → piece.now ≡ drop (length self.old.bytes) (cipher_text f (keyed f key nonce ad) self.new.bytes) }
+        ensures prefix { take (length self.old.bytes) self.new.bytes ≡ self.old.bytes }
+    {
+        let end = self.len + piece.len();
+        self.buf[self.len..end].copy_from_slice(piece);
+        pieces.decrypt(&mut self.buf[self.len..end]);
         self.len = end;
     }
 

@@ -1,6 +1,7 @@
 //! Vectors of the AEGIS specification, refusals and round trips.
-use crate::{Variant, seal_in_place, unseal_in_place};
+use crate::{Error, MessageLength, Variant, seal_in_place, unseal_in_place};
 use std::process::Abort;
+use std::test::Fail;
 
 const KEY: [u8; 16] = [0x10, 0x01, 0, 0, 0, 0, 0, 0, 0, 0, 0, 0, 0, 0, 0, 0];
 
@@ -98,4 +99,28 @@ fn messages_of_each_length_come_back(rt: HostRuntime) {
         );
         assert!(rt; buffer == message);
     }
+}
+
+#[test]
+fn a_message_ends_at_its_limit(rt: HostRuntime) {
+    let mut length = MessageLength::new();
+    assert!(rt; length.try_add(0x1fff_ffff_ffff_ffff) == Ok(()));
+    assert!(rt; length.try_add(1) == Err(Error::MessageTooLong));
+    assert!(rt; length.total() == 0x1fff_ffff_ffff_ffff);
+    assert!(rt; length.fits(0) && !length.fits(1));
+}
+
+#[test]
+fn errors_tell_their_texts(rt: HostRuntime) -> Result<(), Fail> {
+    let texts = [
+        (Error::InvalidTag, "invalid tag"),
+        (Error::OutputBufferTooSmall, "output buffer too small"),
+        (Error::MessageTooLong, "message too long"),
+        (Error::OutOfMemory, "out of memory"),
+    ];
+    for (error, text) in texts {
+        let shown = format!(in rt.alloc(); "{error}")?;
+        assert!(rt; shown.as_str() == text);
+    }
+    Ok(())
 }

@@ -1,0 +1,14 @@
+use Rattle.std.proofs.Common.{[]}
+use Rattle.aegis_core.specs.Sealing.{family_of}
+use Rattle.aegis_core.proofs.VariantLemmas.{started}
+use Rattle.aegis_core.proofs.StreamsLemmas.{holds_as, decrypts_none}
+use Rattle.aegis_core.proofs.decryptor.Decryptor.start.Goals as goal
+
+pub returns-clause-holds : goal.returns-clause-holds
+returns-clause-holds g c =
+    let f = family_of g.K.CipherKind.variant in
+    let l = c.lanes.ensures in
+    let key = c.args.key.now in
+    let nonce = c.args.nonce.now in
+    let h = holds_as g.S.LaneState.family g.S.LaneState.lanes f _ _ key nonce c.args.associated_data.now [] l.family (c.start.ensures.holds key nonce (started f _ _ key nonce l.family l.initial)) in
+    decrypts_none g.S.LaneState.family g.S.LaneState.lanes g.K.CipherKind.variant _ key nonce c.args.associated_data.now c.new.ensures.bytes h

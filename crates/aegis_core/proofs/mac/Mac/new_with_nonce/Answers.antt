@@ -1,0 +1,14 @@
+use Rattle.std.proofs.Common.{[]}
+use Rattle.aegis_core.specs.Sealing.{family_of}
+use Rattle.aegis_core.proofs.VariantLemmas.{started}
+use Rattle.aegis_core.proofs.StreamsLemmas.{holds_as}
+use Rattle.aegis_core.proofs.mac.Mac.new_with_nonce.Goals as goal
+
+pub returns-clause-holds : goal.returns-clause-holds
+returns-clause-holds g c =
+    let f = family_of g.K.CipherKind.variant in
+    let l = c.lanes.ensures in
+    let key = c.args.key.now in
+    let nonce = c.args.npub.now in
+    let h = holds_as g.S.LaneState.family g.S.LaneState.lanes f _ _ key nonce [] [] l.family (c.start-empty.ensures.holds key nonce (started f _ _ key nonce l.family l.initial)) in
+    record { holds = h; empty = h }
