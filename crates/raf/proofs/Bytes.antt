@@ -1,6 +1,6 @@
 -- What a splice and a failed call leave.
-use Rattle.std.proofs.Common.{◌≡◌, inl, inr, ℕ, ◌+◌, ◌-◌, ◌<◌, ◌≤◌, min, max, List, [], ◌∷◌, ◌++◌, length, take, drop, replicate, Option, Some, None, Result, Ok, Err, subst, append_assoc, refl, sym, ◌∙◌, ap, arith, length-append, length-take, add_comm}
-use Rattle.std.proofs.lemmas.List.{take_all, drop_all, append-nil, take-append-le, take-take, take-replicate, length-replicate}
+use Rattle.std.proofs.Common.{◌≡◌, inl, inr, ℕ, ◌+◌, ◌-◌, ◌<◌, ◌≤◌, min, max, List, [], ◌∷◌, ◌++◌, length, take, drop, replicate, Option, Some, None, Result, Ok, Err, subst, append_assoc, refl, sym, ◌∙◌, ap, arith, length-append, length-take, length-drop, add_comm}
+use Rattle.std.proofs.lemmas.List.{take_all, drop_all, drop_at, drop-drop, append-nil, take-append-le, take-take, take-replicate, length-replicate}
 use Rattle.std.proofs.Math.Seq.{take-append-add}
 use Rattle.std.proofs.lemmas.Bool.{cases_lt}
 use Rattle.std.specs.Result.{OnOk, OnErr}
@@ -98,3 +98,42 @@ leaves_header (Err e) old new offset text b written torn is = go new (subst (λ 
       λ far long.
           sym (take-take 96 (min offset (length b)) c (omega arith)) ∙ ap (λ (l : List ℕ). take 96 l) t.before ∙ take-take 96 offset b far,
     )
+
+-- a write of a part of the bytes, or of none, is one that failed in between
+torn_part : (at n : ℕ) (part b : List ℕ) → length part ≤ n → Torn at n b (spliced at part b)
+torn_part at n part b le = record {
+  before = front;
+  after = back;
+  no_shorter = omega (arith, long);
+  no_longer = omega (arith, long);
+}
+  where
+    rest : List ℕ
+    rest = drop (at + length part) b
+
+    long : length (spliced at part b) ≡ at + length part + (length b - (at + length part))
+    long = omega (arith, length-append (resized at b ++ part) (drop (at + length part) b), length-append (resized at b) part, length-resized at b, length-drop (at + length part) b)
+
+    front : take (min at (length b)) (spliced at part b) ≡ take at b
+    front =
+        ap (λ (l : List ℕ). take (min at (length b)) l) (append_assoc (resized at b) part (drop (at + length part) b))
+        ∙ take-append-le (min at (length b)) (resized at b) (part ++ drop (at + length part) b) (omega (arith, length-resized at b))
+        ∙ take-resized (min at (length b)) at b (omega arith) ∙ resized_cut (min at (length b)) b (omega arith)
+        ∙ elim (cases_lt at (length b)) [
+          | inl inside ↦ let e : min at (length b) ≡ at = omega arith in ap (λ (k : ℕ). take k b) e
+          | inr past ↦ take_all (min at (length b)) b (omega arith) ∙ sym (take_all at b past)
+        ]
+
+    back : drop (at + n) (spliced at part b) ≡ drop (at + n) b
+    back =
+        let sum : at + n ≡ at + length part + (n - length part) = omega arith in
+        let len : length (resized at b ++ part) ≡ at + length part = omega (arith, length-append (resized at b) part, length-resized at b) in
+        ap (λ (k : ℕ). drop k (spliced at part b)) sum
+        ∙ sym (drop-drop (n - length part) (at + length part) (spliced at part b))
+        ∙ ap (λ (l : List ℕ). drop (n - length part) l) (drop_at (resized at b ++ part) (drop (at + length part) b) (at + length part) len)
+        ∙ drop-drop (n - length part) (at + length part) b
+        ∙ ap (λ (k : ℕ). drop k b) (sym sum)
+
+pub torn_either : {E : Type 0} (r : Result (Unit {0}) E) (at n : ℕ) (part b now : List ℕ) → length part ≤ n → OnOk r (now ≡ spliced at part b) → OnErr r (now ≡ b) → Torn at n b now
+torn_either (Ok x) at n part b now le ok err = subst (Torn at n b) (sym ok) (torn_part at n part b le)
+torn_either (Err e) at n part b now le ok err = subst (Torn at n b) (sym err) (torn_same at n b)

@@ -67,7 +67,7 @@ chunks_are C lawful key b h index (suc n) [] len s = absurd (omega (arith, len))
 chunks_are C lawful key b h index (suc n) (c ∷ chunks) len s =
     ap (λ (o : Option (List ℕ)). o ∷ chunks) (answer_one C lawful key h.id (record_at C.nonce_len h.chunk_size h.file_size index b) index c s.0)
     ∙ ap (λ (l : List (Option (List ℕ))). unsealed C (C.chunk_key key h.id) h.id index (record_at C.nonce_len h.chunk_size h.file_size index b) ∷ l)
-        (chunks_are C lawful key b h (index + 1) n chunks (omega (arith, len)) s.1)
+    (chunks_are C lawful key b h (index + 1) n chunks (omega (arith, len)) s.1)
 
 -- bytes open to one file at most
 pub opens_is : (C : Cipher) (lawful : IsLawful C) (key b : List ℕ) (F : File) (o : Opens C key b F) → F ≡ file_of C key o.header b

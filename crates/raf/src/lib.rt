@@ -14,6 +14,10 @@ mod source;
 mod stepping;
 mod storage;
 mod storing;
+#[cfg(test)]
+mod tests;
+#[cfg(test)]
+mod torn;
 pub mod tree;
 
 pub use command::{Command, Replies, Reply};

@@ -130,7 +130,7 @@ impl MemIo {
 }
 
 // Puts these bytes at an offset.
-fn splice(bytes: &mut Vec<u8>, at: usize, new: &[u8]) -> Result<(), AllocError>
+pub fn splice(bytes: &mut Vec<u8>, at: usize, new: &[u8]) -> Result<(), AllocError>
     requires { at + length new.now < 2 ^ 64 }
     ensures ok { OnOk result (bytes.new.items ≡ spliced at new.now bytes.old.items) }
     ensures err { OnErr result (bytes.new.items ≡ bytes.old.items) }
