@@ -1,0 +1,9 @@
+pub mod BytesLemmas
+pub mod SealLemmas
+pub mod LoopLemmas
+pub mod OneText
+pub mod LaneLemmas
+pub mod VariantLemmas
+pub mod OpenLemmas
+pub mod TagLengths
+pub mod Laws

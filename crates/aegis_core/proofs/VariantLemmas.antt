@@ -1,0 +1,41 @@
+-- A variant's sealing is its family's.
+use Rattle.std.proofs.Common.{◌≡◌, Bool, true, false, ℕ, List, refl, sym, ap, ◌∙◌}
+use Rattle.std.specs.Bool.{OnTrue, OnFalse}
+use Rattle.aegis_core.specs.Lanes.{State}
+use Rattle.aegis_core.specs.Family.{Family, sealed_by, mac_by}
+use Rattle.aegis_core.specs.Sealing.{family_of, seal, mac}
+use Rattle.aegis_core.specs.declared.variant.Variant.{Variant}
+use Rattle.aegis_core.specs.declared.variant.Variant.TheVariants.{Aegis128L}
+
+-- a state that is the initial one of its family
+pub started : (f d : Family) (s : State) (key nonce : List ℕ) → d ≡ f → s ≡ f.initial key nonce → s ≡ d.initial key nonce
+started f d s key nonce e h = h ∙ ap (λ (v : Family). v.initial key nonce) (sym e)
+
+pub seal_as : (v w : Variant) (f : Family) (t : ℕ) (key nonce ad m : List ℕ) (p : List ℕ × List ℕ) → v ≡ w → f ≡ family_of w
+    → sealed_by f t key nonce ad m ≡ p → seal v t key nonce ad m ≡ p
+unfolding seal
+seal_as v w f t key nonce ad m p ev ef e =
+    ap (λ (x : Variant). seal x t key nonce ad m) ev ∙ ap (λ (x : Family). sealed_by x t key nonce ad m) (sym ef) ∙ e
+
+-- what no message seals to under the family, none seals to under the variant
+pub seal_none : (v w : Variant) (f : Family) (t : ℕ) (key nonce ad m : List ℕ) (p : List ℕ × List ℕ) → v ≡ w → f ≡ family_of w
+    → ((sealed_by f t key nonce ad m ≡ p) → ⊥) → (seal v t key nonce ad m ≡ p) → ⊥
+unfolding seal
+seal_none v w f t key nonce ad m p ev ef without e =
+    without (ap (λ (x : Family). sealed_by x t key nonce ad m) ef ∙ ap (λ (x : Variant). seal x t key nonce ad m) (sym ev) ∙ e)
+
+pub mac_as : (v : Variant) (f : Family) (t : ℕ) (key nonce text tag : List ℕ) → f ≡ family_of v
+    → mac_by f t key nonce text ≡ tag → tag ≡ mac v t key nonce text
+unfolding mac
+mac_as v f t key nonce text tag ef e = sym (ap (λ (x : Family). mac_by x t key nonce text) (sym ef) ∙ e)
+
+pub only : (v : Variant) → v ≡ Aegis128L
+only Aegis128L = refl
+
+pub on_true : (b : Bool) (P Q : Type 0) → (P → Q) → OnTrue b P → OnTrue b Q
+on_true true P Q f p = f p
+on_true false P Q f p = p
+
+pub on_false : (b : Bool) (P Q : Type 0) → (P → Q) → OnFalse b P → OnFalse b Q
+on_false true P Q f p = p
+on_false false P Q f p = f p

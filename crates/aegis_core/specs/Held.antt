@@ -1,0 +1,34 @@
+-- What a state of the code holds, given the bytes of a block.
+use Rattle.std.specs.Prelude.{ℕ, List, [], ◌∷◌}
+use Rattle.aegis_core.specs.Lanes.{Lane, State}
+use Rattle.aegis_core.specs.Family.{Family, family_128}
+use Rattle.aegis_core.specs.declared.lanes128.Lane128.{Lane128}
+use Rattle.aegis_core.specs.declared.lanes128.Lanes128.{Lanes128}
+use Rattle.aegis_core.specs.declared.lane_count.LaneCount.{LaneCount}
+use Rattle.aegis_core.specs.declared.lane_count.LaneCount.TheVariants.{One, Two, Four}
+
+-- how many
+abbrev pub lane_count : LaneCount → ℕ
+lane_count One = 1
+lane_count Two = 2
+lane_count Four = 4
+
+-- the lanes in use
+abbrev pub used_lanes : LaneCount → Lane → Lane → Lane → Lane → State
+used_lanes One a b c d = a ∷ []
+used_lanes Two a b c d = a ∷ b ∷ []
+used_lanes Four a b c d = a ∷ b ∷ c ∷ d ∷ []
+
+-- the blocks of a lane of the 128 family
+abbrev pub lane_of_128 : {B : Type 0} → (B → List ℕ) → Lane128 B → Lane
+lane_of_128 bytes s =
+    bytes s.s0 ∷ bytes s.s1 ∷ bytes s.s2 ∷ bytes s.s3 ∷ bytes s.s4 ∷ bytes s.s5 ∷ bytes s.s6 ∷ bytes s.s7 ∷ []
+
+-- the lanes of a state of the 128 family
+abbrev pub lanes_of_128 : {B : Type 0} → (B → List ℕ) → Lanes128 B → State
+lanes_of_128 bytes s =
+    used_lanes s.count (lane_of_128 bytes s.l0) (lane_of_128 bytes s.l1) (lane_of_128 bytes s.l2) (lane_of_128 bytes s.l3)
+
+-- the family of a state with these lanes
+abbrev pub lanes_family_128 : {B : Type 0} → Lanes128 B → Family
+lanes_family_128 s = family_128 (lane_count s.count)

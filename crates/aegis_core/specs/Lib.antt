@@ -1,0 +1,10 @@
+pub mod Blocks
+pub mod Lanes
+pub mod Lanes128
+pub mod Lanes256
+pub mod Family
+pub mod Tail
+pub mod Held
+pub mod Sealing
+pub mod Keys
+pub mod Laws

@@ -1,0 +1,152 @@
+//! Absorbing, encrypting and decrypting whole inputs, block by block.
+
+ghost use Rattle.std.specs.Bool.{OnTrue, OnFalse};
+ghost use Rattle.std.specs.Prelude.{◌≡◌, ◌≢◌, ◌⊎◌, ℕ, ◌*◌, ◌^◌, ◌<◌, List, length, replicate, Some, None};
+ghost use Rattle.aes_spec.specs.Bytes.{xor_bytes};
+ghost use Rattle.aegis_core.specs.Family.{absorbed, cipher_text, sealed_by, mac_by};
+ghost use Rattle.aegis_core.specs.Tail.{absorbed_tail};
+
+use crate::bytes::{padded_block, xor_into};
+use crate::lane_state::LaneState;
+
+// Absorbs less than a block.
+fn absorb_tail<S: LaneState>(state: &mut S, tail: &[u8])
+    requires { length tail.now < (S.family state.old).rate }
+    ensures same { S.family state.new ≡ S.family state.old }
+    ensures updated { S.lanes state.new ≡ absorbed_tail (S.family state.old) (S.lanes state.old) tail.now }
+{
+    if tail.len() == 0 {
+        return;
+    }
+    let rate = state.rate();
+    let last = padded_block(tail);
+    state.absorb(&last[..rate]);
+}
+
+// Encrypts less than a block in place.
+fn encrypt_tail<S: LaneState>(state: &mut S, tail: &mut [u8])
+    requires { length tail.old < (S.family state.old).rate }
+    ensures same { S.family state.new ≡ S.family state.old }
+    ensures text { tail.new ≡ xor_bytes tail.old ((S.family state.old).keystream (S.lanes state.old)) }
+    ensures updated { S.lanes state.new ≡ absorbed_tail (S.family state.old) (S.lanes state.old) tail.old }
+{
+    let mut keystream = [0u8; 128];
+    let rate = state.rate();
+    state.keystream(&mut keystream[..rate]);
+    absorb_tail(state, tail);
+    xor_into(tail, &keystream[..rate]);
+}
+
+// Decrypts less than a block in place.
+fn decrypt_tail<S: LaneState>(state: &mut S, tail: &mut [u8])
+    requires { length tail.old < (S.family state.old).rate }
+    ensures same { S.family state.new ≡ S.family state.old }
+    ensures text { tail.new ≡ xor_bytes tail.old ((S.family state.old).keystream (S.lanes state.old)) }
+    ensures updated { S.lanes state.new ≡ absorbed_tail (S.family state.old) (S.lanes state.old) tail.new }
+{
+    let mut keystream = [0u8; 128];
+    let rate = state.rate();
+    state.keystream(&mut keystream[..rate]);
+    xor_into(tail, &keystream[..rate]);
+    absorb_tail(state, tail);
+}
+
+/// Absorbs `input`, padded with zeros to whole blocks.
+pub fn absorb_all<S: LaneState>(state: &mut S, input: &[u8])
+    ensures same { S.family state.new ≡ S.family state.old }
+    ensures updated { S.lanes state.new ≡ absorbed (S.family state.old) (S.lanes state.old) input.now }
+{
+    let rate = state.rate();
+    let whole = input.len() / rate;
+    'each: for i in 0..whole {
+        state.absorb(&input[i * rate..i * rate + rate]);
+    }
+    absorb_tail(state, &input[whole * rate..]);
+}
+
+/// Encrypts `mc` in place, padded with zeros to whole blocks and cut to its length.
+pub fn encrypt_all<S: LaneState>(state: &mut S, mc: &mut [u8])
+    ensures same { S.family state.new ≡ S.family state.old }
+    ensures text { mc.new ≡ cipher_text (S.family state.old) (S.lanes state.old) mc.old }
+    ensures updated { S.lanes state.new ≡ absorbed (S.family state.old) (S.lanes state.old) mc.old }
+{
+    let rate = state.rate();
+    let whole = mc.len() / rate;
+    'each: for i in 0..whole {
+        state.encrypt(&mut mc[i * rate..i * rate + rate]);
+    }
+    encrypt_tail(state, &mut mc[whole * rate..]);
+}
+
+/// Decrypts `mc` in place: what it held is the cipher text of what it holds afterwards.
+pub fn decrypt_all<S: LaneState>(state: &mut S, mc: &mut [u8])
+    ensures same { S.family state.new ≡ S.family state.old }
+    ensures rate { 0 < (S.family state.old).rate }
+    ensures text { mc.old ≡ cipher_text (S.family state.old) (S.lanes state.old) mc.new }
+    ensures updated { S.lanes state.new ≡ absorbed (S.family state.old) (S.lanes state.old) mc.new }
+{
+    let rate = state.rate();
+    let whole = mc.len() / rate;
+    'each: for i in 0..whole {
+        state.decrypt(&mut mc[i * rate..i * rate + rate]);
+    }
+    decrypt_tail(state, &mut mc[whole * rate..]);
+}
+
+fn are_same(a: &[u8], b: &[u8]) -> bool
+    ensures yes { OnTrue result (a.now ≡ b.now) }
+    ensures no { OnFalse result (a.now ≢ b.now) }
+{
+    *a == *b
+}
+
+/// Seals `mc` in place under the key and nonce of the initial state.
+pub fn seal_lanes<S: LaneState>(state: S, ad: &[u8], mc: &mut [u8], tag: &mut [u8])
+    requires tag_len { (length tag.old ≡ 16) ⊎ (length tag.old ≡ 32) }
+    requires ad_len { length ad.now < 2 ^ 61 }
+    requires mc_len { length mc.old < 2 ^ 61 }
+    ensures { (key nonce : List ℕ) → S.lanes state ≡ (S.family state).initial key nonce
+        → sealed_by (S.family state) (length tag.old) key nonce ad.now mc.old ≡ (mc.new, tag.new) }
+{
+    let mut state = state;
+    absorb_all(&mut state, ad);
+    encrypt_all(&mut state, mc);
+    state.finalise(8 * ad.len() as u64, 8 * mc.len() as u64, tag);
+}
+
+/// Unseals `mc` in place under the key and nonce of the initial state: whether there is a message,
+/// which then stands in `mc`. Else every byte of `mc` is 0xaa.
+pub fn unseal_lanes<S: LaneState>(state: S, ad: &[u8], mc: &mut [u8], tag: &[u8]) -> bool
+    requires tag_len { (length tag.now ≡ 16) ⊎ (length tag.now ≡ 32) }
+    requires ad_len { length ad.now < 2 ^ 61 }
+    requires mc_len { length mc.old < 2 ^ 61 }
+    ensures message { OnTrue result ((key nonce : List ℕ) → S.lanes state ≡ (S.family state).initial key nonce
+        → sealed_by (S.family state) (length tag.now) key nonce ad.now mc.new ≡ (mc.old, tag.now)) }
+    ensures none { OnFalse result ((key nonce m : List ℕ) → S.lanes state ≡ (S.family state).initial key nonce
+        → (sealed_by (S.family state) (length tag.now) key nonce ad.now m ≡ (mc.old, tag.now)) → ⊥) }
+    ensures erased { OnFalse result (mc.new ≡ replicate (length mc.old) 0xaa) }
+{
+    let mut state = state;
+    absorb_all(&mut state, ad);
+    decrypt_all(&mut state, mc);
+    let mut buffer = [0u8; 32];
+    let expected = &mut buffer[..tag.len()];
+    state.finalise(8 * ad.len() as u64, 8 * mc.len() as u64, expected);
+    if are_same(expected, tag) {
+        return true;
+    }
+    mc.fill(0xaa);
+    false
+}
+
+/// The MAC of a text under the key and nonce of the initial state.
+pub fn mac_lanes<S: LaneState>(state: S, text: &[u8], tag: &mut [u8])
+    requires tag_len { (length tag.old ≡ 16) ⊎ (length tag.old ≡ 32) }
+    requires text_len { length text.now < 2 ^ 61 }
+    ensures { (key nonce : List ℕ) → S.lanes state ≡ (S.family state).initial key nonce
+        → mac_by (S.family state) (length tag.old) key nonce text.now ≡ tag.new }
+{
+    let mut state = state;
+    absorb_all(&mut state, text);
+    state.finalise(8 * text.len() as u64, 8 * tag.len() as u64, tag);
+}

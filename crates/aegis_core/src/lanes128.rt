@@ -1,0 +1,360 @@
+//! The lanes of the AEGIS-128 family.
+
+ghost use Rattle.std.specs.Prelude.{◌≡◌, ◌⊎◌, ℕ, ◌+◌, ◌*◌, ◌<◌, ◌≤◌, ◌++◌, List, [], length, take, drop, fold, map};
+ghost use Rattle.std.specs.List.{flat_map};
+ghost use Rattle.aes_spec.specs.Bytes.{xor_bytes};
+ghost use Rattle.aegis_core.specs.Lanes.{IsLaneCount, State, lengths, xor_all};
+ghost use Rattle.aegis_core.specs.Lanes128.{first_seven, low_four, high_four, update_lane_128, initial_lane_128, initial_128, z0, z1, final_lane_128};
+ghost use Rattle.aegis_core.specs.Family.{Family, family_128};
+ghost use Rattle.aegis_core.specs.Held.{lane_count, lane_of_128, lanes_of_128, lanes_family_128};
+
+use crate::bytes::{block_from, put_block, xor_into};
+use crate::lane_count::LaneCount;
+use crate::lane_state::LaneState;
+use softaes::RoundBlock;
+
+const C0: [u8; 16] = [
+    0x00, 0x01, 0x01, 0x02, 0x03, 0x05, 0x08, 0x0d, 0x15, 0x22, 0x37, 0x59, 0x90, 0xe9, 0x79, 0x62,
+];
+
+const C1: [u8; 16] = [
+    0xdb, 0x3d, 0x18, 0x55, 0x6d, 0xc2, 0x2f, 0xf1, 0x20, 0x11, 0x31, 0x42, 0x73, 0xb5, 0x28, 0xdd,
+];
+
+/// One lane of eight blocks.
+#[derive(Clone, Copy)]
+pub struct Lane128<B> {
+    s0: B,
+    s1: B,
+    s2: B,
+    s3: B,
+    s4: B,
+    s5: B,
+    s6: B,
+    s7: B,
+}
+
+/// Four lanes, of which some are used.
+#[derive(Clone, Copy)]
+pub struct Lanes128<B> {
+    l0: Lane128<B>,
+    l1: Lane128<B>,
+    l2: Lane128<B>,
+    l3: Lane128<B>,
+    count: LaneCount,
+}
+
+impl<B: RoundBlock> Lane128<B> {
+    // Updates with the blocks `m0` and `m1`.
+    fn update(&mut self, m0: &B, m1: &B)
+        ensures { lane_of_128 B.bytes self.new ≡ update_lane_128 (lane_of_128 B.bytes self.old) (B.bytes m0.now) (B.bytes m1.now) }
+    {
+        let old = *self;
+        *self = Lane128 {
+            s0: old.s7.round(&old.s0.xor(m0)),
+            s1: old.s0.round(&old.s1),
+            s2: old.s1.round(&old.s2),
+            s3: old.s2.round(&old.s3),
+            s4: old.s3.round(&old.s4.xor(m1)),
+            s5: old.s4.round(&old.s5),
+            s6: old.s5.round(&old.s6),
+            s7: old.s6.round(&old.s7),
+        };
+    }
+
+    // The initial state of lane `i` of `lanes`.
+    fn initial(lanes: usize, i: usize, key: &B, nonce: &B) -> Lane128<B>
+        requires below { i < lanes }
+        requires few { lanes ≤ 4 }
+        ensures { lane_of_128 B.bytes result ≡ initial_lane_128 lanes (B.bytes key.now) (B.bytes nonce.now) i }
+    {
+        let c0 = B::from_bytes(&C0);
+        let c1 = B::from_bytes(&C1);
+        let mut context_bytes = [0u8; 16];
+        context_bytes[0] = i as u8;
+        context_bytes[1] = (lanes - 1) as u8;
+        let context = B::from_bytes(&context_bytes);
+        let both = key.xor(nonce);
+        let key_c0 = key.xor(&c0);
+        let mut s = Lane128 {
+            s0: both,
+            s1: c1,
+            s2: c0,
+            s3: c1,
+            s4: both,
+            s5: key_c0,
+            s6: key.xor(&c1),
+            s7: key_c0,
+        };
+        'mix: for n in 0..10usize {
+            s.s3 = s.s3.xor(&context);
+            s.s7 = s.s7.xor(&context);
+            s.update(nonce, key);
+        }
+        s
+    }
+
+    fn z0(&self) -> B
+        ensures { B.bytes result ≡ z0 (lane_of_128 B.bytes self.now) }
+    {
+        self.s6.xor(&self.s1).xor(&self.s2.and(&self.s3))
+    }
+
+    fn z1(&self) -> B
+        ensures { B.bytes result ≡ z1 (lane_of_128 B.bytes self.now) }
+    {
+        self.s2.xor(&self.s5).xor(&self.s6.and(&self.s7))
+    }
+}
+
+impl<B: RoundBlock> Lane128<B> {
+    // The lane after its last updates, with the block of the two length numbers.
+    fn finished(&self, numbers: &B) -> Lane128<B>
+        ensures { (first second : ℕ) → B.bytes numbers.now ≡ lengths first second
+            → lane_of_128 B.bytes result ≡ final_lane_128 first second (lane_of_128 B.bytes self.now) }
+    {
+        let t = self.s2.xor(numbers);
+        let mut s = *self;
+        'last: for n in 0..7usize {
+            s.update(&t, &t);
+        }
+        s
+    }
+
+    // Adds the first seven blocks.
+    fn add_seven(&self, to: &B) -> B
+        ensures { B.bytes result ≡ fold xor_bytes (B.bytes to.now) (first_seven (lane_of_128 B.bytes self.now)) }
+    {
+        to.xor(&self.s0)
+            .xor(&self.s1)
+            .xor(&self.s2)
+            .xor(&self.s3)
+            .xor(&self.s4)
+            .xor(&self.s5)
+            .xor(&self.s6)
+    }
+
+    // Adds the first four blocks.
+    fn add_low(&self, to: &B) -> B
+        ensures { B.bytes result ≡ fold xor_bytes (B.bytes to.now) (low_four (lane_of_128 B.bytes self.now)) }
+    {
+        to.xor(&self.s0).xor(&self.s1).xor(&self.s2).xor(&self.s3)
+    }
+
+    // Adds the last four blocks.
+    fn add_high(&self, to: &B) -> B
+        ensures { B.bytes result ≡ fold xor_bytes (B.bytes to.now) (high_four (lane_of_128 B.bytes self.now)) }
+    {
+        to.xor(&self.s4).xor(&self.s5).xor(&self.s6).xor(&self.s7)
+    }
+}
+
+impl<B: RoundBlock> Lanes128<B> {
+    /// The initial state of `lanes` lanes, 1, 2 or 4, under key and nonce (AEGIS specification, "The
+    /// Init Function").
+    pub fn new(lanes: usize, key: &[u8; 16], nonce: &[u8; 16]) -> Lanes128<B>
+        requires { IsLaneCount lanes }
+        ensures family { lanes_family_128 result ≡ family_128 lanes }
+        ensures initial { lanes_of_128 B.bytes result ≡ initial_128 lanes key.now nonce.now }
+    {
+        Lanes128::counted(LaneCount::of(lanes), key, nonce)
+    }
+
+    // The initial state of so many lanes.
+    fn counted(count: LaneCount, key: &[u8; 16], nonce: &[u8; 16]) -> Lanes128<B>
+        ensures count { result.count ≡ count }
+        ensures initial { lanes_of_128 B.bytes result ≡ initial_128 (lane_count count) key.now nonce.now }
+    {
+        let key = B::from_bytes(key);
+        let nonce = B::from_bytes(nonce);
+        match count {
+            LaneCount::One => {
+                let l0 = Lane128::initial(1, 0, &key, &nonce);
+                Lanes128 {
+                    l0,
+                    l1: l0,
+                    l2: l0,
+                    l3: l0,
+                    count,
+                }
+            }
+            LaneCount::Two => {
+                let l0 = Lane128::initial(2, 0, &key, &nonce);
+                let l1 = Lane128::initial(2, 1, &key, &nonce);
+                Lanes128 {
+                    l0,
+                    l1,
+                    l2: l0,
+                    l3: l0,
+                    count,
+                }
+            }
+            LaneCount::Four => Lanes128 {
+                l0: Lane128::initial(4, 0, &key, &nonce),
+                l1: Lane128::initial(4, 1, &key, &nonce),
+                l2: Lane128::initial(4, 2, &key, &nonce),
+                l3: Lane128::initial(4, 3, &key, &nonce),
+                count,
+            },
+        }
+    }
+}
+
+impl<B: RoundBlock> Lanes128<B> {
+    // The first seven blocks of each lane, added up.
+    fn sum_seven(&self) -> B
+        ensures { B.bytes result ≡ xor_all (flat_map first_seven (lanes_of_128 B.bytes self.now)) }
+    {
+        let zero = B::from_bytes(&[0; 16]);
+        let sum0 = self.l0.add_seven(&zero);
+        match self.count {
+            LaneCount::One => sum0,
+            LaneCount::Two => self.l1.add_seven(&sum0),
+            LaneCount::Four => {
+                let sum1 = self.l1.add_seven(&sum0);
+                let sum2 = self.l2.add_seven(&sum1);
+                self.l3.add_seven(&sum2)
+            }
+        }
+    }
+
+    // The first four blocks of each lane, added up.
+    fn sum_low(&self) -> B
+        ensures { B.bytes result ≡ xor_all (flat_map low_four (lanes_of_128 B.bytes self.now)) }
+    {
+        let zero = B::from_bytes(&[0; 16]);
+        let sum0 = self.l0.add_low(&zero);
+        match self.count {
+            LaneCount::One => sum0,
+            LaneCount::Two => self.l1.add_low(&sum0),
+            LaneCount::Four => {
+                let sum1 = self.l1.add_low(&sum0);
+                let sum2 = self.l2.add_low(&sum1);
+                self.l3.add_low(&sum2)
+            }
+        }
+    }
+
+    // The last four blocks of each lane, added up.
+    fn sum_high(&self) -> B
+        ensures { B.bytes result ≡ xor_all (flat_map high_four (lanes_of_128 B.bytes self.now)) }
+    {
+        let zero = B::from_bytes(&[0; 16]);
+        let sum0 = self.l0.add_high(&zero);
+        match self.count {
+            LaneCount::One => sum0,
+            LaneCount::Two => self.l1.add_high(&sum0),
+            LaneCount::Four => {
+                let sum1 = self.l1.add_high(&sum0);
+                let sum2 = self.l2.add_high(&sum1);
+                self.l3.add_high(&sum2)
+            }
+        }
+    }
+
+    // The lanes after their last updates.
+    fn finished(&self, first: u64, second: u64) -> Lanes128<B>
+        ensures { lanes_of_128 B.bytes result ≡ map (final_lane_128 first second) (lanes_of_128 B.bytes self.now) }
+    {
+        let mut numbers = [0u8; 16];
+        numbers[..8].copy_from_slice(&first.to_le_bytes());
+        numbers[8..].copy_from_slice(&second.to_le_bytes());
+        let lengths = B::from_bytes(&numbers);
+        Lanes128 {
+            l0: self.l0.finished(&lengths),
+            l1: self.l1.finished(&lengths),
+            l2: self.l2.finished(&lengths),
+            l3: self.l3.finished(&lengths),
+            count: self.count,
+        }
+    }
+}
+
+impl<B: RoundBlock> LaneState for Lanes128<B> {
+    ghost family = { lanes_family_128 };
+
+    ghost lanes = { lanes_of_128 B.bytes };
+
+    fn rate(&self) -> usize {
+        match self.count {
+            LaneCount::One => 32,
+            LaneCount::Two => 64,
+            LaneCount::Four => 128,
+        }
+    }
+
+    fn keystream(&self, out: &mut [u8]) {
+        match self.count {
+            LaneCount::One => {
+                put_block(out, 0, &self.l0.z0());
+                put_block(out, 16, &self.l0.z1());
+            }
+            LaneCount::Two => {
+                put_block(out, 0, &self.l0.z0());
+                put_block(out, 16, &self.l1.z0());
+                put_block(out, 32, &self.l0.z1());
+                put_block(out, 48, &self.l1.z1());
+            }
+            LaneCount::Four => {
+                put_block(out, 0, &self.l0.z0());
+                put_block(out, 16, &self.l1.z0());
+                put_block(out, 32, &self.l2.z0());
+                put_block(out, 48, &self.l3.z0());
+                put_block(out, 64, &self.l0.z1());
+                put_block(out, 80, &self.l1.z1());
+                put_block(out, 96, &self.l2.z1());
+                put_block(out, 112, &self.l3.z1());
+            }
+        }
+    }
+
+    fn absorb(&mut self, block: &[u8]) {
+        match self.count {
+            LaneCount::One => {
+                let t0 = &block[..16];
+                let t1 = &block[16..];
+                self.l0.update(&block_from(t0, 0), &block_from(t1, 0));
+            }
+            LaneCount::Two => {
+                let t0 = &block[..32];
+                let t1 = &block[32..];
+                self.l0.update(&block_from(t0, 0), &block_from(t1, 0));
+                self.l1.update(&block_from(t0, 16), &block_from(t1, 16));
+            }
+            LaneCount::Four => {
+                let t0 = &block[..64];
+                let t1 = &block[64..];
+                self.l0.update(&block_from(t0, 0), &block_from(t1, 0));
+                self.l1.update(&block_from(t0, 16), &block_from(t1, 16));
+                self.l2.update(&block_from(t0, 32), &block_from(t1, 32));
+                self.l3.update(&block_from(t0, 48), &block_from(t1, 48));
+            }
+        }
+    }
+
+    fn encrypt(&mut self, block: &mut [u8]) {
+        let mut keystream = [0u8; 128];
+        let rate = self.rate();
+        self.keystream(&mut keystream[..rate]);
+        self.absorb(block);
+        xor_into(block, &keystream[..rate]);
+    }
+
+    fn decrypt(&mut self, block: &mut [u8]) {
+        let mut keystream = [0u8; 128];
+        let rate = self.rate();
+        self.keystream(&mut keystream[..rate]);
+        xor_into(block, &keystream[..rate]);
+        self.absorb(block);
+    }
+
+    fn finalise(self, first: u64, second: u64, tag: &mut [u8]) {
+        let done = self.finished(first, second);
+        if tag.len() == 32 {
+            put_block(tag, 0, &done.sum_low());
+            put_block(tag, 16, &done.sum_high());
+        } else {
+            put_block(tag, 0, &done.sum_seven());
+        }
+    }
+}
