@@ -2,6 +2,7 @@
 use Rattle.std.proofs.Common.{◌≡◌, ℕ, zero, suc, ◌+◌, ◌-◌, ◌*◌, ◌/◌, ◌%◌, ◌<◌, ◌≤◌, List, [], ◌∷◌, ◌++◌, length, take, drop, replicate, get_or, set, refl, sym, ap, ◌∙◌, arith, add-one, length-append, length-drop}
 use Rattle.std.proofs.lemmas.List.{take-append-le, drop-append-le, take_all, append-nil, length-take-le, length-replicate, take-append-drop, take_at}
 use Rattle.std.proofs.Math.Nat.{mod_self, div-add-mod', mod-eq_of_lt, mul-div_cancel}
+use Rattle.std.proofs.lemmas.Nat.{xor_comm}
 use Rattle.std.specs.Int.Bits.{xor_assoc, xor_self, xor_zero_r}
 use Rattle.std.specs.Prelude.{bit_xor}
 use Rattle.aes_spec.specs.Bytes.{on_bytes, xor_bytes}
@@ -30,6 +31,23 @@ xor_twice (x ∷ xs) (y ∷ ys) =
 -- what is added determines
 pub xor_cancel : (xs zs ys : List ℕ) → xor_bytes xs ys ≡ xor_bytes zs ys → xs ≡ zs
 xor_cancel xs zs ys e = sym (xor_twice xs ys) ∙ ap (λ (v : List ℕ). xor_bytes v ys) e ∙ xor_twice zs ys
+
+-- two parts
+pub on_bytes-append : (f : ℕ → ℕ → ℕ) (a b k z : List ℕ) → length a ≡ length k → on_bytes f (a ++ b) (k ++ z) ≡ on_bytes f a k ++ on_bytes f b z
+unfolding on_bytes
+on_bytes-append f [] b [] z h = refl
+on_bytes-append f [] b (y ∷ k) z h = absurd (omega arith)
+on_bytes-append f (x ∷ a) b [] z h = absurd (omega arith)
+on_bytes-append f (x ∷ a) b (y ∷ k) z h = ap (λ (v : List ℕ). f x y ∷ v) (on_bytes-append f a b k z (omega arith))
+
+pub xor_comm_bytes : (xs ys : List ℕ) → length xs ≡ length ys → xor_bytes xs ys ≡ xor_bytes ys xs
+unfolding on_bytes
+xor_comm_bytes [] [] h = refl
+xor_comm_bytes [] (y ∷ ys) h = absurd (omega arith)
+xor_comm_bytes (x ∷ xs) [] h = absurd (omega arith)
+xor_comm_bytes (x ∷ xs) (y ∷ ys) h =
+    let head : bit_xor x y ≡ bit_xor y x = xor_comm x y in
+    rw (head, xor_comm_bytes xs ys (omega arith)) refl
 
 -- the front of a longer list
 pub take-on_bytes : (f : ℕ → ℕ → ℕ) (xs zs ys : List ℕ) → take (length xs) (on_bytes f (xs ++ zs) ys) ≡ on_bytes f xs ys

@@ -1,6 +1,6 @@
 -- The lanes in use, one case for each count.
 use Rattle.std.proofs.Common.{◌≡◌, ℕ, ◌-◌, ◌*◌, ◌≤◌, List, [], ◌∷◌, ◌++◌, length, take, drop, refl, sym, ap, ◌∙◌, arith, subst}
-use Rattle.std.proofs.lemmas.List.{append-nil, append_assoc, take_all, length-take-le, take_rest}
+use Rattle.std.proofs.lemmas.List.{append-nil, take_all, length-take-le, take_rest}
 use Rattle.std.specs.Prelude.{fold, map, replicate, ◌⊎◌}
 use Rattle.std.specs.List.{flat_map}
 use Rattle.std.proofs.Common.{inl, inr}
@@ -8,7 +8,7 @@ use Rattle.std.proofs.lemmas.List.Sums.{fold-append}
 use Rattle.aes_spec.specs.Bytes.{xor_bytes}
 use Rattle.aegis_core.specs.Blocks.{block_at}
 use Rattle.aegis_core.specs.Lanes.{Lane, State, Block, lanes_from, xor_all}
-use Rattle.aegis_core.specs.Lanes128.{update_lane_128, update_lanes_128, update_128, z0, z1, keystream_128, initial_128, initial_lane_128, first_seven, low_four, high_four, tag_of_128}
+use Rattle.aegis_core.specs.Lanes128.{update_lane_128, update_lanes_128, update_128, initial_128, initial_lane_128, first_seven, low_four, high_four, tag_of_128}
 use Rattle.aegis_core.specs.Held.{lane_count, used_lanes}
 use Rattle.aegis_core.specs.declared.lane_count.LaneCount.{LaneCount}
 use Rattle.aegis_core.specs.declared.lane_count.LaneCount.TheVariants.{One, Two, Four}
@@ -57,28 +57,6 @@ four_updated k a b c d x y z w t h e f i j =
     let P : LaneCount → Type 0 = λ n. used_lanes n x y z w ≡ update_128 (lane_count n) (used_lanes n a b c d) t in
     subst P (sym h) (rw (e, f, i, j) refl)
 
-pub one_stream : (k : LaneCount) (a b c d : Lane) (out p q : List ℕ) → k ≡ One → length out ≤ 32 → take 32 out ≡ ([] ++ p) ++ q
-    → p ≡ z0 a → q ≡ z1 a → out ≡ keystream_128 (used_lanes k a b c d)
-one_stream k a b c d out p q h l e ep eq =
-    let P : LaneCount → Type 0 = λ j. out ≡ keystream_128 (used_lanes j a b c d) in
-    let s : ([] ++ p) ++ q ≡ keystream_128 (a ∷ []) = rw (ep, eq) (simp append-nil refl) in
-    subst P (sym h) (sym (take_all 32 out l) ∙ e ∙ s)
-
-pub two_stream : (k : LaneCount) (a b c d : Lane) (out p0 p1 q0 q1 : List ℕ) → k ≡ Two → length out ≤ 64 → take 64 out ≡ ((([] ++ p0) ++ p1) ++ q0) ++ q1
-    → p0 ≡ z0 a → p1 ≡ z0 b → q0 ≡ z1 a → q1 ≡ z1 b → out ≡ keystream_128 (used_lanes k a b c d)
-two_stream k a b c d out p0 p1 q0 q1 h l e e0 e1 f0 f1 =
-    let P : LaneCount → Type 0 = λ j. out ≡ keystream_128 (used_lanes j a b c d) in
-    let s : ((([] ++ p0) ++ p1) ++ q0) ++ q1 ≡ keystream_128 (a ∷ b ∷ []) = rw (e0, e1, f0, f1) (simp (append-nil, append_assoc) refl) in
-    subst P (sym h) (sym (take_all 64 out l) ∙ e ∙ s)
-
-pub four_stream : (k : LaneCount) (a b c d : Lane) (out p0 p1 p2 p3 q0 q1 q2 q3 : List ℕ) → k ≡ Four → length out ≤ 128
-    → take 128 out ≡ ((((((([] ++ p0) ++ p1) ++ p2) ++ p3) ++ q0) ++ q1) ++ q2) ++ q3
-    → p0 ≡ z0 a → p1 ≡ z0 b → p2 ≡ z0 c → p3 ≡ z0 d → q0 ≡ z1 a → q1 ≡ z1 b → q2 ≡ z1 c → q3 ≡ z1 d → out ≡ keystream_128 (used_lanes k a b c d)
-four_stream k a b c d out p0 p1 p2 p3 q0 q1 q2 q3 h l e e0 e1 e2 e3 f0 f1 f2 f3 =
-    let P : LaneCount → Type 0 = λ j. out ≡ keystream_128 (used_lanes j a b c d) in
-    let s : ((((((([] ++ p0) ++ p1) ++ p2) ++ p3) ++ q0) ++ q1) ++ q2) ++ q3 ≡ keystream_128 (a ∷ b ∷ c ∷ d ∷ []) = rw (e0, e1, e2, e3, f0, f1, f2, f3) (simp (append-nil, append_assoc) refl) in
-    subst P (sym h) (sym (take_all 128 out l) ∙ e ∙ s)
-
 -- the initial states: p and q are the key and the nonce as blocks
 pub one_initial : (k : LaneCount) (x b c d : Lane) (key nonce p q : List ℕ) → k ≡ One → p ≡ key → q ≡ nonce → x ≡ initial_lane_128 1 p q 0
     → used_lanes k x b c d ≡ initial_128 (lane_count k) key nonce
@@ -104,10 +82,21 @@ four_initial k x y z w key nonce p q h ep eq e f i j =
 
 -- ---- the tag
 
-pub used-map : (f : Lane → Lane) (k : LaneCount) (a b c d x y z w : Lane) → x ≡ f a → y ≡ f b → z ≡ f c → w ≡ f d → used_lanes k x y z w ≡ map f (used_lanes k a b c d)
-used-map f One a b c d x y z w ea eb ec ed = rw ea refl
-used-map f Two a b c d x y z w ea eb ec ed = rw (ea, eb) refl
-used-map f Four a b c d x y z w ea eb ec ed = rw (ea, eb, ec, ed) refl
+pub one_map : (f : Lane → Lane) (k : LaneCount) (a b c d x y z w : Lane) → k ≡ One → x ≡ f a → used_lanes k x y z w ≡ map f (used_lanes k a b c d)
+one_map f k a b c d x y z w h ea =
+    let P : LaneCount → Type 0 = λ j. used_lanes j x y z w ≡ map f (used_lanes j a b c d) in
+    subst P (sym h) (rw ea refl)
+
+pub two_map : (f : Lane → Lane) (k : LaneCount) (a b c d x y z w : Lane) → k ≡ Two → x ≡ f a → y ≡ f b → used_lanes k x y z w ≡ map f (used_lanes k a b c d)
+two_map f k a b c d x y z w h ea eb =
+    let P : LaneCount → Type 0 = λ j. used_lanes j x y z w ≡ map f (used_lanes j a b c d) in
+    subst P (sym h) (rw (ea, eb) refl)
+
+pub four_map : (f : Lane → Lane) (k : LaneCount) (a b c d x y z w : Lane) → k ≡ Four → x ≡ f a → y ≡ f b → z ≡ f c → w ≡ f d
+    → used_lanes k x y z w ≡ map f (used_lanes k a b c d)
+four_map f k a b c d x y z w h ea eb ec ed =
+    let P : LaneCount → Type 0 = λ j. used_lanes j x y z w ≡ map f (used_lanes j a b c d) in
+    subst P (sym h) (rw (ea, eb, ec, ed) refl)
 
 pub one_sum : (f : Lane → List Block) (k : LaneCount) (a b c d : Lane) (o x : Block) → k ≡ One → o ≡ replicate 16 0 → x ≡ fold xor_bytes o (f a)
     → x ≡ xor_all (flat_map f (used_lanes k a b c d))

@@ -1,16 +1,18 @@
 -- The laws of sealing.
-use Rattle.std.proofs.Common.{◌≡◌, ◌⊎◌, ℕ, ◌*◌, Bool, true, List, length, refl, sym, ap, ◌∙◌, Option, Some, None, if◌then◌else◌, subst}
+use Rattle.std.proofs.Common.{replicate, [], ◌≡◌, ◌⊎◌, ℕ, ◌*◌, true, List, length, refl, sym, ap, ◌∙◌, Option, Some, None, if◌then◌else◌}
 use Rattle.std.specs.Str.{bytes_eq}
 use Rattle.std.proofs.lemmas.Bool.{cond-true}
 use Rattle.std.proofs.lemmas.Option.{cond_some}
 use Rattle.std.proofs.lemmas.Slice.Eq.{bytes_eq-Decides}
+use Rattle.std.proofs.lemmas.List.{length-replicate}
+use Rattle.aegis_core.proofs.BytesLemmas.{xor_twice}
 use Rattle.aegis_core.specs.Family.{Family, absorbed, cipher_text, keyed, plain_text}
-use Rattle.aegis_core.specs.Sealing.{family_of, seal, unsealed, mac, Unseals}
+use Rattle.aegis_core.specs.Sealing.{family_of, seal, unsealed, mac, stream, Unseals}
 use Rattle.aegis_core.specs.Laws.{IsSealing}
 use Rattle.aegis_core.specs.declared.variant.Variant.{Variant}
 use Rattle.aegis_core.proofs.OneText.{length-cipher_text, one_text}
 use Rattle.aegis_core.proofs.OpenLemmas.{cipher_text-plain_text, plain_text-cipher_text}
-use Rattle.aegis_core.proofs.TagLengths.{IsSound, sound}
+use Rattle.aegis_core.proofs.TagLengths.{sound}
 
 pub length-seal : (v : Variant) (t : ℕ) (key nonce ad m : List ℕ) → length (seal v t key nonce ad m).0 ≡ length m
 unfolding seal
@@ -73,6 +75,14 @@ pub unsealed-answer : (v : Variant) (t : ℕ) (key nonce ad c tag : List ℕ) (a
 unsealed-answer v t key nonce ad c tag (Some m) h = opened v t key nonce ad c tag m h
 unsealed-answer v t key nonce ad c tag None h = none_of v t key nonce ad c tag (unsealed v t key nonce ad c tag) refl h
 
+pub seal-tag_len : (v : Variant) (t u : ℕ) (key nonce ad m : List ℕ) → (seal v t key nonce ad m).0 ≡ (seal v u key nonce ad m).0
+unfolding seal
+seal-tag_len v t u key nonce ad m = refl
+
+pub length-stream : (v : Variant) (key nonce : List ℕ) (n : ℕ) → length (stream v key nonce n) ≡ n
+unfolding stream
+length-stream v key nonce n = length-seal v 16 key nonce [] (replicate n 0) ∙ length-replicate n 0
+
 pub is_sealing : (v : Variant) (t : ℕ) → ((t ≡ 16) ⊎ (t ≡ 32)) → IsSealing v t
 is_sealing v t h = record {
   text_len = length-seal v t;
@@ -83,4 +93,7 @@ is_sealing v t h = record {
   one_message = one_message v t;
   unseals = λ key nonce ad c tag. unseals_as v t key nonce ad c tag (unsealed v t key nonce ad c tag) refl;
   one_answer = unsealed-answer v t;
+  same_text = λ u key nonce ad m. seal-tag_len v t u key nonce ad m;
+  stream_len = length-stream v;
+  stream_twice = λ key nonce m. xor_twice m (stream v key nonce (length m));
 }

@@ -7,3 +7,6 @@ pub mod VariantLemmas
 pub mod OpenLemmas
 pub mod TagLengths
 pub mod Laws
+pub mod RowLemmas
+pub mod LaneLemmas256
+pub mod StreamLemmas

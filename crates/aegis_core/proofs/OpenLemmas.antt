@@ -1,5 +1,5 @@
 -- Decryption gives the message whose cipher text was decrypted.
-use Rattle.std.proofs.Common.{◌≡◌, ℕ, zero, suc, ◌+◌, ◌-◌, ◌*◌, ◌/◌, ◌<◌, ◌≤◌, List, [], ◌∷◌, ◌++◌, length, take, drop, refl, sym, ap, ◌∙◌, arith, length-append, length-drop, add-one, subst}
+use Rattle.std.proofs.Common.{◌≡◌, ℕ, zero, suc, ◌+◌, ◌-◌, ◌*◌, ◌/◌, ◌<◌, ◌≤◌, List, [], ◌∷◌, ◌++◌, length, take, drop, refl, sym, ap, ◌∙◌, arith, length-append, length-drop, add-one}
 use Rattle.std.specs.Prelude.{fold}
 use Rattle.std.proofs.lemmas.List.{append-nil, append_assoc, take_all, take_at, drop_at, drop_all, drop-drop, length-take-le}
 use Rattle.std.proofs.lemmas.List.Sums.{fold-append}
@@ -8,7 +8,7 @@ use borrow.Rule.Slice.PartMut.{put_mid}
 use Rattle.aes_spec.specs.Bytes.{xor_bytes}
 use Rattle.aegis_core.specs.Blocks.{block_at, first_blocks}
 use Rattle.aegis_core.specs.Lanes.{State}
-use Rattle.aegis_core.specs.Family.{Family, absorbed, encrypted, cipher_text, decrypted, plain_text}
+use Rattle.aegis_core.specs.Family.{Family, cipher_text, decrypted, plain_text}
 use Rattle.aegis_core.specs.Tail.{absorbed_tail}
 use Rattle.aegis_core.proofs.BytesLemmas.{length-on_bytes, first_blocks_next}
 use Rattle.aegis_core.proofs.SealLemmas.{state_after, text_of}

@@ -1,15 +1,15 @@
 -- A tag has as many bytes as it should, and a block has bytes.
-use Rattle.std.proofs.Common.{◌≡◌, ◌⊎◌, ℕ, ◌<◌, List, [], ◌∷◌, ◌++◌, length, refl, sym, ap, ◌∙◌, arith, length-append, inl, inr, subst}
+use Rattle.std.proofs.Common.{◌≡◌, ◌⊎◌, ℕ, ◌<◌, List, [], ◌∷◌, ◌++◌, length, refl, sym, ◌∙◌, arith, length-append, inl, inr, subst}
 use Rattle.std.specs.Prelude.{fold, replicate, map}
 use Rattle.std.specs.List.{flat_map}
 use Rattle.aes_spec.specs.Bytes.{xor_bytes}
 use Rattle.aegis_core.specs.Lanes.{State, Block, xor_all}
 use Rattle.aegis_core.specs.Lanes128.{first_seven, low_four, high_four, tag_of_128, final_lane_128}
 use Rattle.aegis_core.specs.Lanes256.{all_six, low_three, high_three, tag_of_256, final_lane_256}
-use Rattle.aegis_core.specs.Family.{Family}
+use Rattle.aegis_core.specs.Family.{Family, family_128, family_256}
 use Rattle.aegis_core.specs.Sealing.{family_of}
 use Rattle.aegis_core.specs.declared.variant.Variant.{Variant}
-use Rattle.aegis_core.specs.declared.variant.Variant.TheVariants.{Aegis128L}
+use Rattle.aegis_core.specs.declared.variant.Variant.TheVariants.{Aegis128L, Aegis128X2, Aegis128X4, Aegis256, Aegis256X2, Aegis256X4}
 use Rattle.aegis_core.proofs.BytesLemmas.{length-on_bytes}
 
 length-fold_xor : (z : Block) (bs : List Block) → length (fold xor_bytes z bs) ≡ length z
@@ -48,8 +48,22 @@ pub record IsSound (f : Family) : Type 0 where
   pub some : 0 < f.rate
   pub tag : (t first second : ℕ) (s : State) → ((t ≡ 16) ⊎ (t ≡ 32)) → length (f.finalise t first second s) ≡ t
 
-pub sound : (v : Variant) → IsSound (family_of v)
-sound Aegis128L = record {
+sound_128 : (d : ℕ) → 0 < d → IsSound (family_128 d)
+sound_128 d h = record {
   some = omega arith;
-  tag = λ t first second s h. length-tag_of_128 t (map (final_lane_128 first second) s) h;
+  tag = λ t first second s e. length-tag_of_128 t (map (final_lane_128 first second) s) e;
 }
+
+sound_256 : (d : ℕ) → 0 < d → IsSound (family_256 d)
+sound_256 d h = record {
+  some = omega arith;
+  tag = λ t first second s e. length-tag_of_256 t (map (final_lane_256 first second) s) e;
+}
+
+pub sound : (v : Variant) → IsSound (family_of v)
+sound Aegis128L = sound_128 1 (omega arith)
+sound Aegis128X2 = sound_128 2 (omega arith)
+sound Aegis128X4 = sound_128 4 (omega arith)
+sound Aegis256 = sound_256 1 (omega arith)
+sound Aegis256X2 = sound_256 2 (omega arith)
+sound Aegis256X4 = sound_256 4 (omega arith)

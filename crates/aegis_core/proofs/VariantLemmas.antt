@@ -1,11 +1,11 @@
 -- A variant's sealing is its family's.
-use Rattle.std.proofs.Common.{◌≡◌, Bool, true, false, ℕ, List, refl, sym, ap, ◌∙◌}
+use Rattle.std.proofs.Common.{◌≡◌, length, refl, Bool, true, false, ℕ, List, sym, ap, ◌∙◌}
 use Rattle.std.specs.Bool.{OnTrue, OnFalse}
+use Rattle.aes_spec.specs.Bytes.{xor_bytes}
 use Rattle.aegis_core.specs.Lanes.{State}
-use Rattle.aegis_core.specs.Family.{Family, sealed_by, mac_by}
-use Rattle.aegis_core.specs.Sealing.{family_of, seal, mac}
+use Rattle.aegis_core.specs.Family.{Family, sealed_by, mac_by, stream_by}
+use Rattle.aegis_core.specs.Sealing.{family_of, seal, mac, stream}
 use Rattle.aegis_core.specs.declared.variant.Variant.{Variant}
-use Rattle.aegis_core.specs.declared.variant.Variant.TheVariants.{Aegis128L}
 
 -- a state that is the initial one of its family
 pub started : (f d : Family) (s : State) (key nonce : List ℕ) → d ≡ f → s ≡ f.initial key nonce → s ≡ d.initial key nonce
@@ -29,9 +29,6 @@ pub mac_as : (v : Variant) (f : Family) (t : ℕ) (key nonce text tag : List ℕ
 unfolding mac
 mac_as v f t key nonce text tag ef e = sym (ap (λ (x : Family). mac_by x t key nonce text) (sym ef) ∙ e)
 
-pub only : (v : Variant) → v ≡ Aegis128L
-only Aegis128L = refl
-
 pub on_true : (b : Bool) (P Q : Type 0) → (P → Q) → OnTrue b P → OnTrue b Q
 on_true true P Q f p = f p
 on_true false P Q f p = p
@@ -39,3 +36,13 @@ on_true false P Q f p = p
 pub on_false : (b : Bool) (P Q : Type 0) → (P → Q) → OnFalse b P → OnFalse b Q
 on_false true P Q f p = p
 on_false false P Q f p = f p
+
+pub stream_as : (v w : Variant) (f : Family) (key nonce : List ℕ) (n : ℕ) (out : List ℕ) → v ≡ w → f ≡ family_of w → out ≡ stream_by f key nonce n → out ≡ stream v key nonce n
+unfolding seal stream
+stream_as v w f key nonce n out ev ef e =
+    e ∙ ap (λ (x : Family). stream_by x key nonce n) ef ∙ ap (λ (x : Variant). stream x key nonce n) (sym ev)
+
+pub xor_stream_as : (v w : Variant) (f : Family) (key nonce old out : List ℕ) → v ≡ w → f ≡ family_of w → out ≡ xor_bytes old (stream_by f key nonce (length old))
+    → out ≡ xor_bytes old (stream v key nonce (length old))
+xor_stream_as v w f key nonce old out ev ef e =
+    e ∙ ap (λ (k : List ℕ). xor_bytes old k) (stream_as v w f key nonce (length old) (stream_by f key nonce (length old)) ev ef refl)

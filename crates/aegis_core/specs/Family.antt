@@ -1,5 +1,5 @@
 -- Sealing, unsealing and the MAC, over what a family of AEGIS ciphers gives.
-use Rattle.std.specs.Prelude.{ℕ, ◌+◌, ◌*◌, ◌/◌, List, [], ◌∷◌, ◌++◌, length, take, fold, Option, Some, None, if◌then◌else◌}
+use Rattle.std.specs.Prelude.{ℕ, ◌+◌, ◌*◌, ◌/◌, List, [], ◌∷◌, ◌++◌, length, take, replicate, fold, Option, Some, None, if◌then◌else◌}
 use Rattle.std.specs.Str.{bytes_eq}
 use Rattle.aes_spec.specs.Bytes.{xor_bytes}
 use Rattle.aegis_core.specs.Blocks.{first_blocks, blocks}
@@ -62,6 +62,10 @@ sealed_by f t key nonce ad m =
 -- the MAC of a text, with the tag's length in bits in the second place (this project's own)
 abbrev pub mac_by : Family → ℕ → List ℕ → List ℕ → List ℕ → List ℕ
 mac_by f t key nonce text = f.finalise t (8 * length text) (8 * t) (keyed f key nonce text)
+
+-- n bytes of keystream: the cipher text of zeros ("AEGIS as a Stream Cipher")
+abbrev pub stream_by : Family → List ℕ → List ℕ → ℕ → List ℕ
+stream_by f key nonce n = cipher_text f (keyed f key nonce []) (replicate n 0)
 
 -- each block with the keystream added, the state updated with what that gives ("The Dec Function");
 -- the last block may be short

@@ -1,9 +1,12 @@
 -- What a state of the code holds, given the bytes of a block.
-use Rattle.std.specs.Prelude.{ℕ, List, [], ◌∷◌}
+use Rattle.std.specs.Prelude.{ℕ, List, [], ◌∷◌, ◌++◌}
 use Rattle.aegis_core.specs.Lanes.{Lane, State}
-use Rattle.aegis_core.specs.Family.{Family, family_128}
+use Rattle.aegis_core.specs.Family.{Family, family_128, family_256}
 use Rattle.aegis_core.specs.declared.lanes128.Lane128.{Lane128}
 use Rattle.aegis_core.specs.declared.lanes128.Lanes128.{Lanes128}
+use Rattle.aegis_core.specs.declared.lanes256.Lane256.{Lane256}
+use Rattle.aegis_core.specs.declared.lanes256.Lanes256.{Lanes256}
+use Rattle.aegis_core.specs.declared.row.Row.{Row}
 use Rattle.aegis_core.specs.declared.lane_count.LaneCount.{LaneCount}
 use Rattle.aegis_core.specs.declared.lane_count.LaneCount.TheVariants.{One, Two, Four}
 
@@ -32,3 +35,26 @@ lanes_of_128 bytes s =
 -- the family of a state with these lanes
 abbrev pub lanes_family_128 : {B : Type 0} → Lanes128 B → Family
 lanes_family_128 s = family_128 (lane_count s.count)
+
+-- the blocks of a lane of the 256 family
+abbrev pub lane_of_256 : {B : Type 0} → (B → List ℕ) → Lane256 B → Lane
+lane_of_256 bytes s = bytes s.s0 ∷ bytes s.s1 ∷ bytes s.s2 ∷ bytes s.s3 ∷ bytes s.s4 ∷ bytes s.s5 ∷ []
+
+-- the lanes of a state of the 256 family
+abbrev pub lanes_of_256 : {B : Type 0} → (B → List ℕ) → Lanes256 B → State
+lanes_of_256 bytes s =
+    used_lanes s.count (lane_of_256 bytes s.l0) (lane_of_256 bytes s.l1) (lane_of_256 bytes s.l2) (lane_of_256 bytes s.l3)
+
+-- the family of a state with these lanes
+abbrev pub lanes_family_256 : {B : Type 0} → Lanes256 B → Family
+lanes_family_256 s = family_256 (lane_count s.count)
+
+-- the bytes of the blocks in use
+abbrev pub used_bytes : LaneCount → List ℕ → List ℕ → List ℕ → List ℕ → List ℕ
+used_bytes One a b c d = a
+used_bytes Two a b c d = a ++ b
+used_bytes Four a b c d = ((a ++ b) ++ c) ++ d
+
+-- the bytes of a row
+abbrev pub row_bytes : {B : Type 0} → (B → List ℕ) → Row B → List ℕ
+row_bytes bytes r = used_bytes r.count (bytes r.b0) (bytes r.b1) (bytes r.b2) (bytes r.b3)

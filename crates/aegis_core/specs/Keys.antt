@@ -2,7 +2,7 @@
 use Rattle.std.specs.Prelude.{ℕ, List, ◌++◌, replicate, codes}
 use Rattle.aegis_core.specs.Sealing.{key_len, nonce_len, mac}
 use Rattle.aegis_core.specs.declared.variant.Variant.{Variant}
-use Rattle.aegis_core.specs.declared.variant.Variant.TheVariants.{Aegis128L}
+use Rattle.aegis_core.specs.declared.variant.Variant.TheVariants.{Aegis128L, Aegis128X2, Aegis128X4, Aegis256, Aegis256X2, Aegis256X4}
 
 -- the nonce of zeros
 abbrev pub zero_nonce : Variant → List ℕ
@@ -11,6 +11,11 @@ zero_nonce v = replicate (nonce_len v) 0
 -- the cipher whose MAC derives keys of this length
 abbrev pub mac_variant : Variant → Variant
 mac_variant Aegis128L = Aegis128L
+mac_variant Aegis128X2 = Aegis128L
+mac_variant Aegis128X4 = Aegis128L
+mac_variant Aegis256 = Aegis256
+mac_variant Aegis256X2 = Aegis256
+mac_variant Aegis256X4 = Aegis256
 
 -- the key that a master key gives for a text: a MAC as long as the key
 unfoldable pub kdf : Variant → List ℕ → List ℕ → List ℕ

@@ -5,6 +5,8 @@ use Rattle.std.specs.List.{flat_map}
 use Rattle.aes_spec.specs.Bytes.{xor_bytes, and_bytes}
 use Rattle.aes_spec.specs.Rounds.{R}
 use Rattle.aegis_core.specs.Blocks.{block_at}
+use Rattle.aegis_core.specs.declared.tag_part.TagPart.{TagPart}
+use Rattle.aegis_core.specs.declared.tag_part.TagPart.TheVariants.{Whole, Low, High}
 use Rattle.aegis_core.specs.Lanes.{Block, Lane, State, at, times, lanes_from, c0, c1, context, lengths, xor_all}
 
 -- the update of a lane with the blocks m0 and m1 ("The Update Function")
@@ -66,6 +68,11 @@ low_four s = take 4 s
 
 abbrev pub high_four : Lane → List Block
 high_four s = take 4 (drop 4 s)
+
+abbrev pub part_128 : TagPart → Lane → List Block
+part_128 Whole = first_seven
+part_128 Low = low_four
+part_128 High = high_four
 
 -- the tag of t bytes, t being 16 or 32, of lanes after their last updates
 unfoldable pub tag_of_128 : ℕ → State → List ℕ

@@ -5,6 +5,8 @@ use Rattle.std.specs.List.{flat_map}
 use Rattle.aes_spec.specs.Bytes.{xor_bytes, and_bytes}
 use Rattle.aes_spec.specs.Rounds.{R}
 use Rattle.aegis_core.specs.Blocks.{block_at}
+use Rattle.aegis_core.specs.declared.tag_part.TagPart.{TagPart}
+use Rattle.aegis_core.specs.declared.tag_part.TagPart.TheVariants.{Whole, Low, High}
 use Rattle.aegis_core.specs.Lanes.{Block, Lane, State, at, times, lanes_from, c0, c1, context, lengths, xor_all}
 
 -- the update of a lane with the block m ("The Update Function")
@@ -40,14 +42,13 @@ unfoldable pub mixed_four_256 : Block → Block → Block → Block → Block �
 mixed_four_256 x k0 k1 n0 n1 s =
     fold (mixed_lane_256 x) s (k0 ∷ k1 ∷ xor_bytes k0 n0 ∷ xor_bytes k1 n1 ∷ [])
 
--- the initial state of lane i of d: four times these updates
-unfoldable pub initial_lane_256 : ℕ → List ℕ → List ℕ → ℕ → Lane
+-- the initial state of lane i of d, from the halves of key and nonce: four times these updates
+unfoldable pub initial_halves_256 : ℕ → Block → Block → Block → Block → ℕ → Lane
+initial_halves_256 d k0 k1 n0 n1 i = times 4 (mixed_four_256 (context d i) k0 k1 n0 n1) (start_lane_256 k0 k1 n0 n1)
+
+abbrev pub initial_lane_256 : ℕ → List ℕ → List ℕ → ℕ → Lane
 initial_lane_256 d key nonce i =
-    let k0 = take 16 key in
-    let k1 = drop 16 key in
-    let n0 = take 16 nonce in
-    let n1 = drop 16 nonce in
-    times 4 (mixed_four_256 (context d i) k0 k1 n0 n1) (start_lane_256 k0 k1 n0 n1)
+    initial_halves_256 d (take 16 key) (drop 16 key) (take 16 nonce) (drop 16 nonce) i
 
 abbrev pub initial_256 : ℕ → List ℕ → List ℕ → State
 initial_256 d key nonce = lanes_from (initial_lane_256 d key nonce) d
@@ -74,6 +75,11 @@ low_three s = take 3 s
 
 abbrev pub high_three : Lane → List Block
 high_three s = take 3 (drop 3 s)
+
+abbrev pub part_256 : TagPart → Lane → List Block
+part_256 Whole = all_six
+part_256 Low = low_three
+part_256 High = high_three
 
 -- the tag of t bytes, t being 16 or 32, of lanes after their last updates
 unfoldable pub tag_of_256 : ℕ → State → List ℕ

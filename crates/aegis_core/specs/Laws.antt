@@ -1,6 +1,7 @@
 -- What sealing promises to those that know nothing of its blocks.
 use Rattle.std.specs.Prelude.{◌≡◌, ℕ, List, length, Option, Some}
-use Rattle.aegis_core.specs.Sealing.{seal, unsealed, mac, Unseals}
+use Rattle.aes_spec.specs.Bytes.{xor_bytes}
+use Rattle.aegis_core.specs.Sealing.{seal, unsealed, mac, stream, Unseals}
 use Rattle.aegis_core.specs.declared.variant.Variant.{Variant}
 
 -- the laws of a cipher with tags of t bytes
@@ -20,3 +21,9 @@ pub record IsSealing (v : Variant) (t : ℕ) : Type 0 where
   -- unsealing has one answer, which is the computed one
   pub unseals : (key nonce ad c tag : List ℕ) → Unseals v t key nonce ad c tag (unsealed v t key nonce ad c tag)
   pub one_answer : (key nonce ad c tag : List ℕ) (a : Option (List ℕ)) → Unseals v t key nonce ad c tag a → unsealed v t key nonce ad c tag ≡ a
+  -- the cipher text does not depend on the tag's length
+  pub same_text : (u : ℕ) (key nonce ad m : List ℕ) → (seal v t key nonce ad m).0 ≡ (seal v u key nonce ad m).0
+  -- the keystream is as long as it was asked for, and added twice it gives the bytes back
+  pub stream_len : (key nonce : List ℕ) (n : ℕ) → length (stream v key nonce n) ≡ n
+  pub stream_twice : (key nonce m : List ℕ)
+      → xor_bytes (xor_bytes m (stream v key nonce (length m))) (stream v key nonce (length m)) ≡ m

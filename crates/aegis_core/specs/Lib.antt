@@ -4,7 +4,9 @@ pub mod Lanes128
 pub mod Lanes256
 pub mod Family
 pub mod Tail
+pub mod Added
 pub mod Held
 pub mod Sealing
 pub mod Keys
 pub mod Laws
+pub mod Ciphers

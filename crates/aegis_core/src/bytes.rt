@@ -18,7 +18,9 @@ pub fn block_from<B: RoundBlock>(bytes: &[u8], at: usize) -> B
 // Writes a block at `at`.
 pub fn put_block<B: RoundBlock>(out: &mut [u8], at: usize, block: &B)
     requires { at + 16 ≤ length out.old }
-    ensures { (xs : List ℕ) → take at out.old ≡ xs → take (at + 16) out.new ≡ xs ++ B.bytes block.now }
+    ensures front { (xs : List ℕ) → take at out.old ≡ xs → take (at + 16) out.new ≡ xs ++ B.bytes block.now }
+    ensures rest { drop (at + 16) out.new ≡ drop (at + 16) out.old }
+    ensures long { length (B.bytes block.now) ≡ 16 }
 {
     out[at..at + 16].copy_from_slice(&block.to_bytes());
 }

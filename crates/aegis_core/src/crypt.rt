@@ -3,7 +3,7 @@
 ghost use Rattle.std.specs.Bool.{OnTrue, OnFalse};
 ghost use Rattle.std.specs.Prelude.{◌≡◌, ◌≢◌, ◌⊎◌, ℕ, ◌*◌, ◌^◌, ◌<◌, List, length, replicate, Some, None};
 ghost use Rattle.aes_spec.specs.Bytes.{xor_bytes};
-ghost use Rattle.aegis_core.specs.Family.{absorbed, cipher_text, sealed_by, mac_by};
+ghost use Rattle.aegis_core.specs.Family.{absorbed, cipher_text, sealed_by, mac_by, stream_by};
 ghost use Rattle.aegis_core.specs.Tail.{absorbed_tail};
 
 use crate::bytes::{padded_block, xor_into};
@@ -38,17 +38,17 @@ fn encrypt_tail<S: LaneState>(state: &mut S, tail: &mut [u8])
 }
 
 // Decrypts less than a block in place.
-fn decrypt_tail<S: LaneState>(state: &mut S, tail: &mut [u8])
-    requires { length tail.old < (S.family state.old).rate }
+fn decrypt_tail<S: LaneState>(state: &mut S, text: &mut [u8])
+    requires { length text.old < (S.family state.old).rate }
     ensures same { S.family state.new ≡ S.family state.old }
-    ensures text { tail.new ≡ xor_bytes tail.old ((S.family state.old).keystream (S.lanes state.old)) }
-    ensures updated { S.lanes state.new ≡ absorbed_tail (S.family state.old) (S.lanes state.old) tail.new }
+    ensures text { text.new ≡ xor_bytes text.old ((S.family state.old).keystream (S.lanes state.old)) }
+    ensures updated { S.lanes state.new ≡ absorbed_tail (S.family state.old) (S.lanes state.old) text.new }
 {
     let mut keystream = [0u8; 128];
     let rate = state.rate();
     state.keystream(&mut keystream[..rate]);
-    xor_into(tail, &keystream[..rate]);
-    absorb_tail(state, tail);
+    xor_into(text, &keystream[..rate]);
+    absorb_tail(state, text);
 }
 
 /// Absorbs `input`, padded with zeros to whole blocks.
@@ -91,6 +91,13 @@ pub fn decrypt_all<S: LaneState>(state: &mut S, mc: &mut [u8])
         state.decrypt(&mut mc[i * rate..i * rate + rate]);
     }
     decrypt_tail(state, &mut mc[whole * rate..]);
+}
+
+// Writes zeros.
+fn clear(out: &mut [u8])
+    ensures { out.new ≡ replicate (length out.old) 0 }
+{
+    out.fill(0);
 }
 
 fn are_same(a: &[u8], b: &[u8]) -> bool
@@ -149,4 +156,42 @@ pub fn mac_lanes<S: LaneState>(state: S, text: &[u8], tag: &mut [u8])
     let mut state = state;
     absorb_all(&mut state, text);
     state.finalise(8 * text.len() as u64, 8 * tag.len() as u64, tag);
+}
+
+/// Fills `out` with the keystream under the key and nonce of the initial state.
+pub fn stream_lanes<S: LaneState>(state: S, out: &mut [u8])
+    ensures { (key nonce : List ℕ) → S.lanes state ≡ (S.family state).initial key nonce
+        → out.new ≡ stream_by (S.family state) key nonce (length out.old) }
+{
+    let mut state = state;
+    absorb_all(&mut state, &[]);
+    clear(out);
+    encrypt_all(&mut state, out);
+}
+
+/// Adds to `mc` the cipher text of as many zeros.
+fn xor_stream_all<S: LaneState>(state: &mut S, mc: &mut [u8])
+    ensures { mc.new ≡ xor_bytes mc.old (cipher_text (S.family state.old) (S.lanes state.old) (replicate (length mc.old) 0)) }
+{
+    let rate = state.rate();
+    let whole = mc.len() / rate;
+    'each: for i in 0..whole {
+        let mut keystream = [0u8; 128];
+        state.encrypt(&mut keystream[..rate]);
+        xor_into(&mut mc[i * rate..i * rate + rate], &keystream[..rate]);
+    }
+    let mut keystream = [0u8; 128];
+    let left = mc.len() - whole * rate;
+    encrypt_tail(state, &mut keystream[..left]);
+    xor_into(&mut mc[whole * rate..], &keystream[..left]);
+}
+
+/// Adds the keystream to `mc` under the key and nonce of the initial state.
+pub fn xor_stream_lanes<S: LaneState>(state: S, mc: &mut [u8])
+    ensures { (key nonce : List ℕ) → S.lanes state ≡ (S.family state).initial key nonce
+        → mc.new ≡ xor_bytes mc.old (stream_by (S.family state) key nonce (length mc.old)) }
+{
+    let mut state = state;
+    absorb_all(&mut state, &[]);
+    xor_stream_all(&mut state, mc);
 }

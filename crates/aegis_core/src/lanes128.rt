@@ -4,22 +4,17 @@ ghost use Rattle.std.specs.Prelude.{◌≡◌, ◌⊎◌, ℕ, ◌+◌, ◌*◌,
 ghost use Rattle.std.specs.List.{flat_map};
 ghost use Rattle.aes_spec.specs.Bytes.{xor_bytes};
 ghost use Rattle.aegis_core.specs.Lanes.{IsLaneCount, State, lengths, xor_all};
-ghost use Rattle.aegis_core.specs.Lanes128.{first_seven, low_four, high_four, update_lane_128, initial_lane_128, initial_128, z0, z1, final_lane_128};
+ghost use Rattle.aegis_core.specs.Lanes128.{part_128, update_lane_128, initial_lane_128, initial_128, z0, z1, final_lane_128};
 ghost use Rattle.aegis_core.specs.Family.{Family, family_128};
-ghost use Rattle.aegis_core.specs.Held.{lane_count, lane_of_128, lanes_of_128, lanes_family_128};
+ghost use Rattle.aegis_core.specs.Held.{lane_count, lane_of_128, lanes_of_128, lanes_family_128, row_bytes};
 
-use crate::bytes::{block_from, put_block, xor_into};
+use crate::blocks::{C0, C1, context_block, length_block};
+use crate::bytes::{block_from, put_block};
 use crate::lane_count::LaneCount;
 use crate::lane_state::LaneState;
+use crate::row::Row;
+use crate::tag_part::TagPart;
 use softaes::RoundBlock;
-
-const C0: [u8; 16] = [
-    0x00, 0x01, 0x01, 0x02, 0x03, 0x05, 0x08, 0x0d, 0x15, 0x22, 0x37, 0x59, 0x90, 0xe9, 0x79, 0x62,
-];
-
-const C1: [u8; 16] = [
-    0xdb, 0x3d, 0x18, 0x55, 0x6d, 0xc2, 0x2f, 0xf1, 0x20, 0x11, 0x31, 0x42, 0x73, 0xb5, 0x28, 0xdd,
-];
 
 /// One lane of eight blocks.
 #[derive(Clone, Copy)]
@@ -70,10 +65,7 @@ impl<B: RoundBlock> Lane128<B> {
     {
         let c0 = B::from_bytes(&C0);
         let c1 = B::from_bytes(&C1);
-        let mut context_bytes = [0u8; 16];
-        context_bytes[0] = i as u8;
-        context_bytes[1] = (lanes - 1) as u8;
-        let context = B::from_bytes(&context_bytes);
+        let context = context_block(lanes, i);
         let both = key.xor(nonce);
         let key_c0 = key.xor(&c0);
         let mut s = Lane128 {
@@ -121,31 +113,18 @@ impl<B: RoundBlock> Lane128<B> {
         s
     }
 
-    // Adds the first seven blocks.
-    fn add_seven(&self, to: &B) -> B
-        ensures { B.bytes result ≡ fold xor_bytes (B.bytes to.now) (first_seven (lane_of_128 B.bytes self.now)) }
+    // Adds the blocks of a part of the tag.
+    fn add_part(&self, part: TagPart, to: &B) -> B
+        ensures { B.bytes result ≡ fold xor_bytes (B.bytes to.now) (part_128 part (lane_of_128 B.bytes self.now)) }
     {
-        to.xor(&self.s0)
-            .xor(&self.s1)
-            .xor(&self.s2)
-            .xor(&self.s3)
-            .xor(&self.s4)
-            .xor(&self.s5)
-            .xor(&self.s6)
-    }
-
-    // Adds the first four blocks.
-    fn add_low(&self, to: &B) -> B
-        ensures { B.bytes result ≡ fold xor_bytes (B.bytes to.now) (low_four (lane_of_128 B.bytes self.now)) }
-    {
-        to.xor(&self.s0).xor(&self.s1).xor(&self.s2).xor(&self.s3)
-    }
-
-    // Adds the last four blocks.
-    fn add_high(&self, to: &B) -> B
-        ensures { B.bytes result ≡ fold xor_bytes (B.bytes to.now) (high_four (lane_of_128 B.bytes self.now)) }
-    {
-        to.xor(&self.s4).xor(&self.s5).xor(&self.s6).xor(&self.s7)
+        match part {
+            TagPart::Whole => {
+                let low = to.xor(&self.s0).xor(&self.s1).xor(&self.s2);
+                low.xor(&self.s3).xor(&self.s4).xor(&self.s5).xor(&self.s6)
+            }
+            TagPart::Low => to.xor(&self.s0).xor(&self.s1).xor(&self.s2).xor(&self.s3),
+            TagPart::High => to.xor(&self.s4).xor(&self.s5).xor(&self.s6).xor(&self.s7),
+        }
     }
 }
 
@@ -201,71 +180,70 @@ impl<B: RoundBlock> Lanes128<B> {
 }
 
 impl<B: RoundBlock> Lanes128<B> {
-    // The first seven blocks of each lane, added up.
-    fn sum_seven(&self) -> B
-        ensures { B.bytes result ≡ xor_all (flat_map first_seven (lanes_of_128 B.bytes self.now)) }
+    // The first keystream block of each lane.
+    fn z0_row(&self) -> Row<B>
+        ensures count { result.count ≡ self.now.count }
+        ensures blocks { row_bytes B.bytes result ≡ flat_map z0 (lanes_of_128 B.bytes self.now) }
+    {
+        Row {
+            count: self.count,
+            b0: self.l0.z0(),
+            b1: self.l1.z0(),
+            b2: self.l2.z0(),
+            b3: self.l3.z0(),
+        }
+    }
+
+    // The second keystream block of each lane.
+    fn z1_row(&self) -> Row<B>
+        ensures count { result.count ≡ self.now.count }
+        ensures blocks { row_bytes B.bytes result ≡ flat_map z1 (lanes_of_128 B.bytes self.now) }
+    {
+        Row {
+            count: self.count,
+            b0: self.l0.z1(),
+            b1: self.l1.z1(),
+            b2: self.l2.z1(),
+            b3: self.l3.z1(),
+        }
+    }
+
+    // The blocks of a part of the tag, of each lane in use, added up.
+    fn sum(&self, part: TagPart) -> B
+        ensures { B.bytes result ≡ xor_all (flat_map (part_128 part) (lanes_of_128 B.bytes self.now)) }
     {
         let zero = B::from_bytes(&[0; 16]);
-        let sum0 = self.l0.add_seven(&zero);
+        let sum0 = self.l0.add_part(part, &zero);
         match self.count {
             LaneCount::One => sum0,
-            LaneCount::Two => self.l1.add_seven(&sum0),
+            LaneCount::Two => self.l1.add_part(part, &sum0),
             LaneCount::Four => {
-                let sum1 = self.l1.add_seven(&sum0);
-                let sum2 = self.l2.add_seven(&sum1);
-                self.l3.add_seven(&sum2)
+                let sum1 = self.l1.add_part(part, &sum0);
+                let sum2 = self.l2.add_part(part, &sum1);
+                self.l3.add_part(part, &sum2)
             }
         }
     }
 
-    // The first four blocks of each lane, added up.
-    fn sum_low(&self) -> B
-        ensures { B.bytes result ≡ xor_all (flat_map low_four (lanes_of_128 B.bytes self.now)) }
-    {
-        let zero = B::from_bytes(&[0; 16]);
-        let sum0 = self.l0.add_low(&zero);
-        match self.count {
-            LaneCount::One => sum0,
-            LaneCount::Two => self.l1.add_low(&sum0),
-            LaneCount::Four => {
-                let sum1 = self.l1.add_low(&sum0);
-                let sum2 = self.l2.add_low(&sum1);
-                self.l3.add_low(&sum2)
-            }
-        }
-    }
-
-    // The last four blocks of each lane, added up.
-    fn sum_high(&self) -> B
-        ensures { B.bytes result ≡ xor_all (flat_map high_four (lanes_of_128 B.bytes self.now)) }
-    {
-        let zero = B::from_bytes(&[0; 16]);
-        let sum0 = self.l0.add_high(&zero);
-        match self.count {
-            LaneCount::One => sum0,
-            LaneCount::Two => self.l1.add_high(&sum0),
-            LaneCount::Four => {
-                let sum1 = self.l1.add_high(&sum0);
-                let sum2 = self.l2.add_high(&sum1);
-                self.l3.add_high(&sum2)
-            }
-        }
-    }
-
-    // The lanes after their last updates.
+    // The lanes in use after their last updates.
     fn finished(&self, first: u64, second: u64) -> Lanes128<B>
         ensures { lanes_of_128 B.bytes result ≡ map (final_lane_128 first second) (lanes_of_128 B.bytes self.now) }
     {
-        let mut numbers = [0u8; 16];
-        numbers[..8].copy_from_slice(&first.to_le_bytes());
-        numbers[8..].copy_from_slice(&second.to_le_bytes());
-        let lengths = B::from_bytes(&numbers);
-        Lanes128 {
-            l0: self.l0.finished(&lengths),
-            l1: self.l1.finished(&lengths),
-            l2: self.l2.finished(&lengths),
-            l3: self.l3.finished(&lengths),
-            count: self.count,
+        let numbers = length_block(first, second);
+        let mut done = *self;
+        done.l0 = self.l0.finished(&numbers);
+        match self.count {
+            LaneCount::One => done,
+            LaneCount::Two => {
+                done.l1 = self.l1.finished(&numbers);
+                done
+            }
+            LaneCount::Four => {
+                done.l1 = self.l1.finished(&numbers);
+                done.l2 = self.l2.finished(&numbers);
+                done.l3 = self.l3.finished(&numbers);
+                done
+            }
         }
     }
 }
@@ -284,28 +262,9 @@ impl<B: RoundBlock> LaneState for Lanes128<B> {
     }
 
     fn keystream(&self, out: &mut [u8]) {
-        match self.count {
-            LaneCount::One => {
-                put_block(out, 0, &self.l0.z0());
-                put_block(out, 16, &self.l0.z1());
-            }
-            LaneCount::Two => {
-                put_block(out, 0, &self.l0.z0());
-                put_block(out, 16, &self.l1.z0());
-                put_block(out, 32, &self.l0.z1());
-                put_block(out, 48, &self.l1.z1());
-            }
-            LaneCount::Four => {
-                put_block(out, 0, &self.l0.z0());
-                put_block(out, 16, &self.l1.z0());
-                put_block(out, 32, &self.l2.z0());
-                put_block(out, 48, &self.l3.z0());
-                put_block(out, 64, &self.l0.z1());
-                put_block(out, 80, &self.l1.z1());
-                put_block(out, 96, &self.l2.z1());
-                put_block(out, 112, &self.l3.z1());
-            }
-        }
+        let half = self.rate() / 2;
+        self.z0_row().put(&mut out[..half]);
+        self.z1_row().put(&mut out[half..]);
     }
 
     fn absorb(&mut self, block: &[u8]) {
@@ -333,28 +292,28 @@ impl<B: RoundBlock> LaneState for Lanes128<B> {
     }
 
     fn encrypt(&mut self, block: &mut [u8]) {
-        let mut keystream = [0u8; 128];
-        let rate = self.rate();
-        self.keystream(&mut keystream[..rate]);
+        let half = self.rate() / 2;
+        let z0_row = self.z0_row();
+        let z1_row = self.z1_row();
         self.absorb(block);
-        xor_into(block, &keystream[..rate]);
+        z0_row.add_to(&mut block[..half]);
+        z1_row.add_to(&mut block[half..]);
     }
 
     fn decrypt(&mut self, block: &mut [u8]) {
-        let mut keystream = [0u8; 128];
-        let rate = self.rate();
-        self.keystream(&mut keystream[..rate]);
-        xor_into(block, &keystream[..rate]);
+        let half = self.rate() / 2;
+        self.z0_row().add_to(&mut block[..half]);
+        self.z1_row().add_to(&mut block[half..]);
         self.absorb(block);
     }
 
     fn finalise(self, first: u64, second: u64, tag: &mut [u8]) {
         let done = self.finished(first, second);
         if tag.len() == 32 {
-            put_block(tag, 0, &done.sum_low());
-            put_block(tag, 16, &done.sum_high());
+            put_block(tag, 0, &done.sum(TagPart::Low));
+            put_block(tag, 16, &done.sum(TagPart::High));
         } else {
-            put_block(tag, 0, &done.sum_seven());
+            put_block(tag, 0, &done.sum(TagPart::Whole));
         }
     }
 }

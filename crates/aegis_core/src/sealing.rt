@@ -4,18 +4,20 @@ ghost use Rattle.std.specs.Bool.{OnTrue, OnFalse};
 ghost use Rattle.std.specs.Prelude.{◌≡◌, ◌⊎◌, ◌^◌, ◌<◌, Some, None, length, replicate};
 ghost use Rattle.aegis_core.specs.Lanes.{IsLaneCount};
 ghost use Rattle.aegis_core.specs.Lanes128.{initial_128};
-ghost use Rattle.aegis_core.specs.Family.{family_128};
-ghost use Rattle.aegis_core.specs.Held.{lanes_family_128, lanes_of_128};
+ghost use Rattle.aegis_core.specs.Lanes256.{initial_256};
+ghost use Rattle.aegis_core.specs.Family.{family_128, family_256};
+ghost use Rattle.aegis_core.specs.Held.{lanes_family_128, lanes_family_256, lanes_of_128, lanes_of_256};
 ghost use Rattle.aegis_core.specs.Sealing.{key_len, nonce_len, seal, Unseals};
 ghost use Rattle.aegis_core.specs.Laws.{IsSealing};
 
 use crate::crypt::{seal_lanes, unseal_lanes};
 use crate::lanes128::Lanes128;
+use crate::lanes256::Lanes256;
 use crate::variant::Variant;
 use softaes::{Block, RoundBlock};
 
 // The initial state of `lanes` lanes of the AEGIS-128 family.
-fn started_128(lanes: usize, key: &[u8], nonce: &[u8]) -> Lanes128<Block>
+pub fn started_128(lanes: usize, key: &[u8], nonce: &[u8]) -> Lanes128<Block>
     requires lanes { IsLaneCount lanes }
     requires key { length key.now ≡ 16 }
     requires nonce { length nonce.now ≡ 16 }
@@ -27,6 +29,21 @@ fn started_128(lanes: usize, key: &[u8], nonce: &[u8]) -> Lanes128<Block>
     let mut nonce_bytes = [0u8; 16];
     nonce_bytes.copy_from_slice(nonce);
     Lanes128::new(lanes, &key_bytes, &nonce_bytes)
+}
+
+// The initial state of `lanes` lanes of the AEGIS-256 family.
+pub fn started_256(lanes: usize, key: &[u8], nonce: &[u8]) -> Lanes256<Block>
+    requires lanes { IsLaneCount lanes }
+    requires key { length key.now ≡ 32 }
+    requires nonce { length nonce.now ≡ 32 }
+    ensures family { lanes_family_256 result ≡ family_256 lanes }
+    ensures initial { lanes_of_256 ⟦<Block as RoundBlock>⟧.bytes result ≡ initial_256 lanes key.now nonce.now }
+{
+    let mut key_bytes = [0u8; 32];
+    key_bytes.copy_from_slice(key);
+    let mut nonce_bytes = [0u8; 32];
+    nonce_bytes.copy_from_slice(nonce);
+    Lanes256::new(lanes, &key_bytes, &nonce_bytes)
 }
 
 /// Seals `mc` in place: afterwards `mc` holds the cipher text of what it held, and `tag` its tag, of
@@ -49,6 +66,11 @@ pub fn seal_in_place(
 {
     match variant {
         Variant::Aegis128L => seal_lanes(started_128(1, key, nonce), ad, mc, tag),
+        Variant::Aegis128X2 => seal_lanes(started_128(2, key, nonce), ad, mc, tag),
+        Variant::Aegis128X4 => seal_lanes(started_128(4, key, nonce), ad, mc, tag),
+        Variant::Aegis256 => seal_lanes(started_256(1, key, nonce), ad, mc, tag),
+        Variant::Aegis256X2 => seal_lanes(started_256(2, key, nonce), ad, mc, tag),
+        Variant::Aegis256X4 => seal_lanes(started_256(4, key, nonce), ad, mc, tag),
     }
 }
 
@@ -74,6 +96,11 @@ pub fn unseal_in_place(
 {
     match variant {
         Variant::Aegis128L => unseal_lanes(started_128(1, key, nonce), ad, mc, tag),
+        Variant::Aegis128X2 => unseal_lanes(started_128(2, key, nonce), ad, mc, tag),
+        Variant::Aegis128X4 => unseal_lanes(started_128(4, key, nonce), ad, mc, tag),
+        Variant::Aegis256 => unseal_lanes(started_256(1, key, nonce), ad, mc, tag),
+        Variant::Aegis256X2 => unseal_lanes(started_256(2, key, nonce), ad, mc, tag),
+        Variant::Aegis256X4 => unseal_lanes(started_256(4, key, nonce), ad, mc, tag),
     }
 }
 

@@ -71,6 +71,18 @@ S-IS b h =
     ltb-true (slice_index sources b) 256 (and_parts (nat_lt (slice_index sources b) 256) (nat_lt (slice_index box b) 256) (all_below_at (λ b. nat_lt (slice_index sources b) 256 && nat_lt (slice_index box b) 256) 256 b small_right h)).0 in
     ap S (IS-table b h) ∙ S-table (slice_index sources b) small ∙ same_below (λ b. slice_index box (slice_index sources b)) (λ b. b) 256 there_right b h
 
+pub IS-S : (b : ℕ) → b < 256 → IS (S b) ≡ b
+IS-S b h =
+    let small : slice_index box b < 256 =
+    ltb-true (slice_index box b) 256 (and_parts (nat_lt (slice_index sources b) 256) (nat_lt (slice_index box b) 256) (all_below_at (λ b. nat_lt (slice_index sources b) 256 && nat_lt (slice_index box b) 256) 256 b small_right h)).1 in
+    ap IS (S-table b h) ∙ IS-table (slice_index box b) small ∙ same_below (λ b. slice_index sources (slice_index box b)) (λ b. b) 256 back_right b h
+
+pub S-lt : (b : ℕ) → b < 256 → S b < 256
+S-lt b h =
+    let small : slice_index box b < 256 =
+    ltb-true (slice_index box b) 256 (and_parts (nat_lt (slice_index sources b) 256) (nat_lt (slice_index box b) 256) (all_below_at (λ b. nat_lt (slice_index sources b) 256 && nat_lt (slice_index box b) 256) 256 b small_right h)).1 in
+    rw (S-table b h) small
+
 -- the affine map as the code has it
 abbrev pub rotated_sum : ℕ → ℕ
 rotated_sum b = bit_xor (bit_xor (bit_xor (bit_xor (bit_xor b (rotate_left w8 b 1)) (rotate_left w8 b 2)) (rotate_left w8 b 3)) (rotate_left w8 b 4)) 0x63

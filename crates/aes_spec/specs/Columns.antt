@@ -1,4 +1,4 @@
--- MixColumns on one column of four bytes (FIPS 197, section 5.1.3).
+-- MixColumns and InvMixColumns on one column of four bytes (FIPS 197, sections 5.1.3 and 5.3.3).
 use Rattle.std.specs.Prelude.{ℕ, zero, suc, ◌+◌, ◌-◌, ◌%◌, List, [], ◌∷◌, slice_index, bit_xor}
 use Rattle.aes_spec.specs.Field.{mul}
 
@@ -22,3 +22,11 @@ mix_row = 2 ∷ 3 ∷ 1 ∷ 1 ∷ []
 -- row r of MixColumns of the column b
 abbrev pub mixed : ℕ → (ℕ → ℕ) → ℕ
 mixed = row_of mix_row
+
+-- the first row of the matrix of InvMixColumns
+abbrev pub inv_mix_row : List ℕ
+inv_mix_row = 0x0e ∷ 0x0b ∷ 0x0d ∷ 0x09 ∷ []
+
+-- row r of InvMixColumns of the column b
+abbrev pub inv_mixed : ℕ → (ℕ → ℕ) → ℕ
+inv_mixed = row_of inv_mix_row

@@ -12,11 +12,11 @@ use Rattle.aes_spec.specs.Rounds.{shift_rows}
 use Rattle.softaes.specs.Blocks.{bytes_of}
 use Rattle.softaes.proofs.BlockWords.{word_bytes, lifted}
 
-abbrev byte_test : Word → ℕ → ℕ → ℕ → ℕ → Bool
+abbrev pub byte_test : Word → ℕ → ℕ → ℕ → ℕ → Bool
 byte_test w k v m j = is_place (places w (8 * k + j)) (v * 64 + (8 * m + j))
 
 -- a word's columns moved by one, with the first column of the other word
-abbrev next : Word → Word → Word
+abbrev pub next : Word → Word → Word
 next a b = sum (shr a 32) (shl b 32)
 
 abbrev pub turned : Word → Word → Word
@@ -36,7 +36,7 @@ module _ (lo hi : ℕ) (hl : lo < 2 ^ 64) (hh : hi < 2 ^ 64) where
       one_moved (two lo hi) (two-lt lo hi hl hh) w (8 * k + j) v (8 * m + j) (omega arith) (omega arith) (all_below_at (byte_test w k v m) 8 j test hj)
 
   -- byte k is byte m of input v
-  moved_byte : (w : Word) (k v m : ℕ) → k < 8 → m < 8 → all_below (byte_test w k v m) 8 ≡ true → word_byte (value (two lo hi) w) k ≡ word_byte (two lo hi v) m
+  pub moved_byte : (w : Word) (k v m : ℕ) → k < 8 → m < 8 → all_below (byte_test w k v m) 8 ≡ true → word_byte (value (two lo hi) w) k ≡ word_byte (two lo hi v) m
   moved_byte w k v m hk hm test =
       byte-bits (value (two lo hi) w) k
       ∙ (λ i. number_of (moved_bit w k v m hk hm test 7 (omega arith) i ∷ moved_bit w k v m hk hm test 6 (omega arith) i ∷ moved_bit w k v m hk hm test 5 (omega arith) i ∷ moved_bit w k v m hk hm test 4 (omega arith) i ∷ moved_bit w k v m hk hm test 3 (omega arith) i ∷ moved_bit w k v m hk hm test 2 (omega arith) i ∷ moved_bit w k v m hk hm test 1 (omega arith) i ∷ moved_bit w k v m hk hm test 0 (omega arith) i ∷ []))

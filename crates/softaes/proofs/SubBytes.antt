@@ -10,10 +10,10 @@ use Rattle.aes_spec.specs.Rounds.{sub_bytes}
 use Rattle.softaes.specs.Blocks.{bytes_of}
 use Rattle.softaes.proofs.BlockWords.{word_bytes, lifted}
 
-constant_right : all_below (λ k. word_byte 0x6363_6363_6363_6363 k == 0x63) 8 ≡ true
+pub constant_right : all_below (λ k. word_byte 0x6363_6363_6363_6363 k == 0x63) 8 ≡ true
 constant_right = refl
 
-twice : (s : ℕ) → bit_xor (bit_xor s 0x63) 0x63 ≡ s
+pub twice : (s : ℕ) → bit_xor (bit_xor s 0x63) 0x63 ≡ s
 twice s = xor_assoc s 0x63 0x63 ∙ xor_zero_r s
 
 -- one byte: of a word, through the planes at position i, and back with the constant

@@ -8,12 +8,13 @@
 
 ghost use Rattle.std.specs.Prelude.{ℕ, ◌≡◌, ◌+◌, ◌-◌, ◌*◌, ◌%◌, ◌^◌, ◌<◌, bit_xor};
 ghost use Rattle.std.specs.Int.{bit_at};
-ghost use Rattle.aes_spec.specs.Columns.{mixed};
-ghost use Rattle.aes_spec.specs.Field.{S};
+ghost use Rattle.aes_spec.specs.Columns.{mixed, inv_mixed};
+ghost use Rattle.aes_spec.specs.Field.{S, IS};
 ghost use Rattle.aes_spec.specs.Gates.{sbox_gates};
 ghost use Rattle.aes_spec.specs.Planes.{byte_at};
 ghost use Rattle.aes_spec.specs.Words.{word_byte};
 ghost use Rattle.softaes.specs.Columns.{pairs, opposite, twice};
+ghost use Rattle.softaes.specs.Inverse.{undo_linear};
 ghost use Rattle.softaes.specs.Places.{swapped_low, swapped_high};
 
 /// The bit of weight 1 of each half byte; then those of weight 2, 4 and 8.
@@ -213,6 +214,35 @@ pub fn sbox_core(planes: &mut [u64; 8])
     *planes = gates(planes);
 }
 
+/// The inverse of the linear part of the S-box's affine map. That part adds to the bit of weight 2^i the
+/// bits i + 4 to i + 7 modulo 8, so its inverse is the sum of the bits i + 2, i + 5 and i + 7: for plane k
+/// the planes k + 1, k + 3 and k + 6.
+fn undo_linear(planes: &[u64; 8]) -> [u64; 8]
+    ensures { result ≡ undo_linear planes.now }
+{
+    let [p0, p1, p2, p3, p4, p5, p6, p7] = *planes;
+    [
+        p1 ^ p3 ^ p6,
+        p2 ^ p4 ^ p7,
+        p3 ^ p5 ^ p0,
+        p4 ^ p6 ^ p1,
+        p5 ^ p7 ^ p2,
+        p6 ^ p0 ^ p3,
+        p7 ^ p1 ^ p4,
+        p0 ^ p2 ^ p5,
+    ]
+}
+
+/// The inverse S-box of each byte under its constant, `b ^ 0x63`, in place, at each of the 64 bit
+/// positions: the S-box's gates between two linear maps, since inversion in the field is its own inverse.
+pub fn inv_sbox_core(planes: &mut [u64; 8])
+    ensures { (i : ℕ) → i < 64 → byte_at planes.new i ≡ IS (bit_xor (byte_at planes.old i) 0x63) }
+{
+    let mut inner = undo_linear(planes);
+    sbox_core(&mut inner);
+    *planes = undo_linear(&inner);
+}
+
 /// The sum of each row of two columns and the row below it.
 fn pairs(x: u64) -> u64
     ensures { result ≡ pairs x }
@@ -242,4 +272,17 @@ pub fn mix_columns(x: u64) -> u64
 {
     let sums = pairs(x);
     twice(sums) ^ (sums ^ opposite(sums)) ^ x
+}
+
+/// InvMixColumns (FIPS 197, section 5.3.3) on two columns of four bytes each, little-endian. By the bits
+/// of 0e, 0b, 0d and 09, row r becomes 8 times all rows, 4 times the rows r and r + 2, twice the rows r
+/// and r + 1, and the three other rows; here by Horner's rule.
+pub fn inv_mix_columns(x: u64) -> u64
+    ensures { (c r : ℕ) → c < 2 → r < 4 → word_byte result (4 * c + r) ≡ inv_mixed r (λ k. word_byte x (4 * c + k)) }
+{
+    let sums = pairs(x);
+    let all = sums ^ opposite(sums);
+    let fours = twice(all) ^ (x ^ opposite(x));
+    let twos = twice(fours) ^ sums;
+    twice(twos) ^ all ^ x
 }

@@ -10,6 +10,7 @@ ghost use Rattle.aes_spec.specs.Rounds.{R};
 
 mod block;
 pub mod circuit;
+pub mod key_schedule;
 pub mod laws;
 mod rounds;
 #[cfg(test)]

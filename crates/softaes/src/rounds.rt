@@ -1,11 +1,11 @@
 //! The rounds of AES on gates.
 
 ghost use Rattle.std.specs.Prelude.{◌≡◌};
-ghost use Rattle.aes_spec.specs.Rounds.{R, RL, shift_rows, sub_bytes};
+ghost use Rattle.aes_spec.specs.Rounds.{R, RL, IR, IRL, shift_rows, sub_bytes, inv_shift_rows, inv_sub_bytes};
 ghost use Rattle.softaes.specs.Blocks.{bytes_of};
 
 use crate::Block;
-use crate::circuit::{load, mix_columns, sbox_core, store};
+use crate::circuit::{inv_mix_columns, inv_sbox_core, load, mix_columns, sbox_core, store};
 
 /// The first row of the two columns of a word; then the others.
 const FIRST: u64 = 0x0000_00ff_0000_00ff;
@@ -56,6 +56,31 @@ impl SoftAes {
             hi: d ^ rk.hi,
         }
     }
+
+    /// The inverse round of the equivalent inverse cipher (FIPS 197, section 5.3.5): InvShiftRows,
+    /// InvSubBytes, InvMixColumns and AddRoundKey.
+    pub fn block_decrypt(block: &Block, rk: &Block) -> Block
+        ensures { result ≡ IR block.now rk.now }
+    {
+        let (a, b) = inv_shift_rows(block.lo, block.hi);
+        let (c, d) = inv_sub_bytes(a, b);
+        Block {
+            lo: inv_mix_columns(c) ^ rk.lo,
+            hi: inv_mix_columns(d) ^ rk.hi,
+        }
+    }
+
+    /// The last inverse round, which has no InvMixColumns.
+    pub fn block_decrypt_last(block: &Block, rk: &Block) -> Block
+        ensures { result ≡ IRL block.now rk.now }
+    {
+        let (a, b) = inv_shift_rows(block.lo, block.hi);
+        let (lo, hi) = inv_sub_bytes(a, b);
+        Block {
+            lo: lo ^ rk.lo,
+            hi: hi ^ rk.hi,
+        }
+    }
 }
 
 /// ShiftRows on the words of a block. Row r turns left by r columns, so it is taken from the block that
@@ -72,11 +97,32 @@ fn shift_rows(lo: u64, hi: u64) -> (u64, u64)
 }
 
 /// SubBytes on the words of a block, through the planes.
-fn sub_bytes(lo: u64, hi: u64) -> (u64, u64)
+pub(crate) fn sub_bytes(lo: u64, hi: u64) -> (u64, u64)
     ensures { bytes_of result.0 result.1 ≡ sub_bytes (bytes_of lo hi) }
 {
     let mut planes = load(lo, hi);
     sbox_core(&mut planes);
     let (a, b) = store(&planes);
     (a ^ CONSTANT, b ^ CONSTANT)
+}
+
+/// InvShiftRows on the words of a block: row r turns right by r columns, which is left by 4 - r.
+fn inv_shift_rows(lo: u64, hi: u64) -> (u64, u64)
+    ensures { bytes_of result.0 result.1 ≡ inv_shift_rows (bytes_of lo hi) }
+{
+    let next_lo = (lo >> 32) ^ (hi << 32);
+    let next_hi = (hi >> 32) ^ (lo << 32);
+    (
+        (lo & FIRST) ^ (next_hi & SECOND) ^ (hi & THIRD) ^ (next_lo & FOURTH),
+        (hi & FIRST) ^ (next_lo & SECOND) ^ (lo & THIRD) ^ (next_hi & FOURTH),
+    )
+}
+
+/// InvSubBytes on the words of a block, through the planes.
+fn inv_sub_bytes(lo: u64, hi: u64) -> (u64, u64)
+    ensures { bytes_of result.0 result.1 ≡ inv_sub_bytes (bytes_of lo hi) }
+{
+    let mut planes = load(lo ^ CONSTANT, hi ^ CONSTANT);
+    inv_sbox_core(&mut planes);
+    store(&planes)
 }

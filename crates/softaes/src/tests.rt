@@ -1,5 +1,10 @@
 //! Vectors from outside, the printed text, and the rounds against a plain program.
 
+use crate::key_schedule::{
+    inverse_key_schedule_128, inverse_key_schedule_192, inverse_key_schedule_256,
+    key_expansion_128, key_expansion_192, key_expansion_256,
+};
+use crate::laws::{decrypted, encrypted};
 use crate::{Block, RoundBlock, SoftAes};
 use aes_spec::{gf_mul, sbox};
 use std::test::Fail;
@@ -20,6 +25,33 @@ const ROUND: [u8; 16] = [
     0x7a, 0x7b, 0x4e, 0x56, 0x38, 0x78, 0x25, 0x46, 0xa8, 0xc0, 0x47, 0x7a, 0x3b, 0x81, 0x3f, 0x43,
 ];
 
+/// The keys 00 to 17 and 00 to 1f, the block and the cipher texts of FIPS 197, appendix C.
+const KEY_192: [u8; 24] = [
+    0x00, 0x01, 0x02, 0x03, 0x04, 0x05, 0x06, 0x07, 0x08, 0x09, 0x0a, 0x0b, 0x0c, 0x0d, 0x0e, 0x0f,
+    0x10, 0x11, 0x12, 0x13, 0x14, 0x15, 0x16, 0x17,
+];
+
+const KEY_256: [u8; 32] = [
+    0x00, 0x01, 0x02, 0x03, 0x04, 0x05, 0x06, 0x07, 0x08, 0x09, 0x0a, 0x0b, 0x0c, 0x0d, 0x0e, 0x0f,
+    0x10, 0x11, 0x12, 0x13, 0x14, 0x15, 0x16, 0x17, 0x18, 0x19, 0x1a, 0x1b, 0x1c, 0x1d, 0x1e, 0x1f,
+];
+
+const PLAIN: [u8; 16] = [
+    0x00, 0x11, 0x22, 0x33, 0x44, 0x55, 0x66, 0x77, 0x88, 0x99, 0xaa, 0xbb, 0xcc, 0xdd, 0xee, 0xff,
+];
+
+const CIPHER_128: [u8; 16] = [
+    0x69, 0xc4, 0xe0, 0xd8, 0x6a, 0x7b, 0x04, 0x30, 0xd8, 0xcd, 0xb7, 0x80, 0x70, 0xb4, 0xc5, 0x5a,
+];
+
+const CIPHER_192: [u8; 16] = [
+    0xdd, 0xa9, 0x7c, 0xa4, 0x86, 0x4c, 0xdf, 0xe0, 0x6e, 0xaf, 0x70, 0xa0, 0xec, 0x0d, 0x71, 0x91,
+];
+
+const CIPHER_256: [u8; 16] = [
+    0x8e, 0xa2, 0xb7, 0xca, 0x51, 0x67, 0x45, 0xbf, 0xea, 0xfc, 0x49, 0x90, 0x4b, 0x49, 0x60, 0x89,
+];
+
 /// The round by any block type.
 fn round_of<B: RoundBlock>(block: &[u8; 16], key: &[u8; 16]) -> [u8; 16] {
     B::from_bytes(block).round(&B::from_bytes(key)).to_bytes()
@@ -38,6 +70,34 @@ fn rounds_have_the_values_of_the_vectors(rt: HostRuntime) {
     let zero = Block::default();
     let last = SoftAes::block_encrypt_last(&zero, &zero);
     assert_eq!(rt; last.to_bytes(), SUBSTITUTED_ZEROS);
+    assert_eq!(rt; SoftAes::block_decrypt_last(&last, &zero), zero);
+}
+
+#[test]
+fn ciphers_have_the_values_of_the_standard(rt: HostRuntime) {
+    let plain = Block::from_bytes(&PLAIN);
+
+    let keys = key_expansion_128(&COUNTED);
+    let cipher = encrypted(&keys, &plain);
+    assert_eq!(rt; cipher.to_bytes(), CIPHER_128);
+    assert_eq!(rt; decrypted(&inverse_key_schedule_128(&keys), &cipher), plain);
+
+    let keys = key_expansion_192(&KEY_192);
+    let cipher = encrypted(&keys, &plain);
+    assert_eq!(rt; cipher.to_bytes(), CIPHER_192);
+    assert_eq!(rt; decrypted(&inverse_key_schedule_192(&keys), &cipher), plain);
+
+    let keys = key_expansion_256(&KEY_256);
+    let cipher = encrypted(&keys, &plain);
+    assert_eq!(rt; cipher.to_bytes(), CIPHER_256);
+    assert_eq!(rt; decrypted(&inverse_key_schedule_256(&keys), &cipher), plain);
+
+    let zero_keys = &key_expansion_128(&ZEROS)[..];
+    let round_key = [
+        0x62, 0x63, 0x63, 0x63, 0x62, 0x63, 0x63, 0x63, 0x62, 0x63, 0x63, 0x63, 0x62, 0x63, 0x63,
+        0x63,
+    ];
+    assert_eq!(rt; zero_keys[1].to_bytes(), round_key);
 }
 
 #[test]

@@ -8,4 +8,4 @@ pub returns-clause-text : goal.returns-clause-text
 returns-clause-text g c =
     let le : c.rate-rate.result ≤ 128 = c.rate-rate.ensures.most in
     let a = c.keystream.auto in
-    xor_front c.args.tail.now _ c.keystream.new.out _ c.rate-rate.result c.xor_into.ensures (omega (arith, c.keystream.auto.out, length-take-le {A = ℕ})) ∙ ap (λ (v : List ℕ). xor_bytes c.args.tail.now v) c.keystream.ensures
+    xor_front c.args.text.now _ c.keystream.new.out _ c.rate-rate.result c.xor_into.ensures (omega (arith, c.keystream.auto.out, length-take-le {A = ℕ})) ∙ ap (λ (v : List ℕ). xor_bytes c.args.text.now v) c.keystream.ensures

@@ -15,4 +15,4 @@ pub returns : goal.returns
 unfolding initial_lane_128
 returns g c =
     let done : c.mix.n ≡ 10 = omega arith in
-    rw (done, c.from_bytes-context.ensures) at c.mix.invariant
+    rw (done, c.context_block-context.ensures) at c.mix.invariant

@@ -10,7 +10,7 @@ returns-then-tag-eq32 g c =
     let t = length c.args.tag.now in
     let len : length c.put_block-then-tag-eq32.new.out ≡ length c.args.tag.now = omega (arith, c.put_block.auto.out, c.put_block-then-tag-eq32.auto.out) in
     tag_32 t (lanes_of_128 g.B.RoundBlock.bytes c.finished-done.result) c.put_block-then-tag-eq32.new.out _ _ c.if-tag-eq32.true len
-    (c.put_block-then-tag-eq32.ensures _ (c.put_block.ensures [] refl)) c.sum_low.ensures c.sum_high.ensures
+    (c.put_block-then-tag-eq32.ensures.front _ (c.put_block.ensures.front [] refl)) c.sum.ensures c.sum-then-tag-eq32.ensures
     ∙ ap (λ (v : State). tag_of_128 t v) c.finished-done.ensures
 
 pub returns-else-tag-eq32 : goal.returns-else-tag-eq32
@@ -18,5 +18,5 @@ returns-else-tag-eq32 g c =
     let t = length c.args.tag.now in
     let len : length c.put_block-else-tag-eq32.new.out ≡ length c.args.tag.now = omega (arith, c.put_block-else-tag-eq32.auto.out) in
     tag_16 t (lanes_of_128 g.B.RoundBlock.bytes c.finished-done.result) c.put_block-else-tag-eq32.new.out _ c.requires c.if-tag-eq32.false len
-    (c.put_block-else-tag-eq32.ensures [] refl) c.sum_seven.ensures
+    (c.put_block-else-tag-eq32.ensures.front [] refl) c.sum-else-tag-eq32.ensures
     ∙ ap (λ (v : State). tag_of_128 t v) c.finished-done.ensures

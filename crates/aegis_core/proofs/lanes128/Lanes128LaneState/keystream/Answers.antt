@@ -1,36 +1,15 @@
-use Rattle.std.proofs.Common.{◌≡◌, ◌≤◌, ◌*◌, [], length, ap, ◌∙◌, arith, refl}
-use Rattle.aegis_core.specs.Held.{lane_count}
-use Rattle.aegis_core.proofs.LaneLemmas.{one_stream, two_stream, four_stream}
+use Rattle.std.proofs.Common.{◌≡◌, ◌+◌, ◌/◌, ◌++◌, ℕ, List, length, ap, ◌∙◌, arith}
+use Rattle.std.proofs.lemmas.List.{length-take-le}
+use Rattle.std.specs.List.{flat_map}
+use Rattle.aegis_core.specs.Lanes128.{z0}
+use Rattle.aegis_core.specs.Held.{lanes_of_128}
+use Rattle.aegis_core.proofs.RowLemmas.{half_of, halves_put}
 use Rattle.aegis_core.proofs.lanes128.Lanes128LaneState.keystream.Goals as goal
 
-pub returns-in-One : goal.returns-in-One
-returns-in-One g c =
-    let e : length c.args.out.now ≡ 32 = c.requires ∙ ap (λ k. 32 * lane_count k) c.in-One.is in
-    let h1 = c.put_block.ensures [] refl in
-    let h2 = c.put_block-in-One.ensures _ h1 in
-    let l : length c.put_block-in-One.new.out ≤ 32 = omega (arith, c.put_block.auto.out, c.put_block-in-One.auto.out) in
-    one_stream c.args.self.now.count _ _ _ _ c.put_block-in-One.new.out _ _ c.in-One.is l h2 c.z0.ensures c.z1.ensures
-
-pub returns-in-Two : goal.returns-in-Two
-returns-in-Two g c =
-    let e : length c.args.out.now ≡ 64 = c.requires ∙ ap (λ k. 32 * lane_count k) c.in-Two.is in
-    let h1 = c.put_block-in-Two.ensures [] refl in
-    let h2 = c.put_block-in-Two-2.ensures _ h1 in
-    let h3 = c.put_block-in-Two-3.ensures _ h2 in
-    let h4 = c.put_block-in-Two-4.ensures _ h3 in
-    let l : length c.put_block-in-Two-4.new.out ≤ 64 = omega (arith, c.put_block-in-Two.auto.out, c.put_block-in-Two-2.auto.out, c.put_block-in-Two-3.auto.out, c.put_block-in-Two-4.auto.out) in
-    two_stream c.args.self.now.count _ _ _ _ c.put_block-in-Two-4.new.out _ _ _ _ c.in-Two.is l h4 c.z0-in-Two.ensures c.z0-in-Two-2.ensures c.z1-in-Two.ensures c.z1-in-Two-2.ensures
-
-pub returns-in-Four : goal.returns-in-Four
-returns-in-Four g c =
-    let e : length c.args.out.now ≡ 128 = c.requires ∙ ap (λ k. 32 * lane_count k) c.in-Four.is in
-    let h1 = c.put_block-in-Four.ensures [] refl in
-    let h2 = c.put_block-in-Four-2.ensures _ h1 in
-    let h3 = c.put_block-in-Four-3.ensures _ h2 in
-    let h4 = c.put_block-in-Four-4.ensures _ h3 in
-    let h5 = c.put_block-in-Four-5.ensures _ h4 in
-    let h6 = c.put_block-in-Four-6.ensures _ h5 in
-    let h7 = c.put_block-in-Four-7.ensures _ h6 in
-    let h8 = c.put_block-in-Four-8.ensures _ h7 in
-    let l : length c.put_block-in-Four-8.new.out ≤ 128 = omega (arith, c.put_block-in-Four.auto.out, c.put_block-in-Four-2.auto.out, c.put_block-in-Four-3.auto.out, c.put_block-in-Four-4.auto.out, c.put_block-in-Four-5.auto.out, c.put_block-in-Four-6.auto.out, c.put_block-in-Four-7.auto.out, c.put_block-in-Four-8.auto.out) in
-    four_stream c.args.self.now.count _ _ _ _ c.put_block-in-Four-8.new.out _ _ _ _ _ _ _ _ c.in-Four.is l h8 c.z0-in-Four.ensures c.z0-in-Four-2.ensures c.z0-in-Four-3.ensures c.z0-in-Four-4.ensures c.z1-in-Four.ensures c.z1-in-Four-2.ensures c.z1-in-Four-3.ensures c.z1-in-Four-4.ensures
+pub returns : goal.returns
+returns g c =
+    let half : ℕ = c.rate-half.result / 2 in
+    let both : length c.args.out.now ≡ c.rate-half.result / 2 + c.rate-half.result / 2 = half_of c.args.self.now.count _ _ c.rate-half.ensures.rate c.requires in
+    let long : length c.put.new.out ≡ half = c.put.auto.out ∙ length-take-le half c.args.out.now (omega arith) in
+    halves_put c.args.out.now c.put.new.out c.put-2.new.out half both long
+    ∙ ap (λ (v : List ℕ). v ++ c.put-2.new.out) (c.put.ensures ∙ c.z0_row.ensures.blocks) ∙ ap (λ (v : List ℕ). flat_map z0 (lanes_of_128 g.B.RoundBlock.bytes c.args.self.now) ++ v) (c.put-2.ensures ∙ c.z1_row.ensures.blocks)

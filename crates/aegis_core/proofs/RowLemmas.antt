@@ -1,0 +1,119 @@
+-- Blocks written one after the other, and added to bytes one after the other.
+use Rattle.std.proofs.Common.{◌≡◌, ℕ, ◌+◌, ◌-◌, ◌*◌, ◌/◌, ◌≤◌, List, [], ◌++◌, length, take, drop, refl, sym, ap, ◌∙◌, arith, subst, length-append, length-drop}
+use Rattle.std.specs.List.{flat_map}
+use Rattle.std.proofs.lemmas.List.{append-nil, append_assoc, take_all, take_at, drop_at, drop_all, take_rest, drop-drop, length-take-le, take-append-drop}
+use Rattle.std.proofs.Math.Seq.{take-add}
+use borrow.Rule.Slice.PartMut.{put_mid}
+use Rattle.aes_spec.specs.Bytes.{xor_bytes}
+use Rattle.aegis_core.specs.Added.{IsAdded}
+use Rattle.aegis_core.specs.Lanes.{Lane, Block}
+use Rattle.aegis_core.specs.Held.{lane_count, used_lanes, used_bytes}
+use Rattle.aegis_core.specs.declared.lane_count.LaneCount.{LaneCount}
+use Rattle.aegis_core.specs.declared.lane_count.LaneCount.TheVariants.{One, Two, Four}
+use Rattle.aegis_core.proofs.BytesLemmas.{length-on_bytes, on_bytes-nil, on_bytes-append, xor_comm_bytes}
+
+pub added_none : (xs : List ℕ) → IsAdded xs [] 0 xs
+added_none xs = record { count = refl; front = sym (on_bytes-nil _ (take 0 xs)); rest = refl }
+
+-- one more block, s being its sum with the bytes b that stand there
+pub added_more : (xs ks old new z s b : List ℕ) (at : ℕ) → at + 16 ≤ length old → b ≡ take 16 (drop at old) → s ≡ xor_bytes z b → length s ≡ 16
+    → take (at + 16) new ≡ take at old ++ s → drop (at + 16) new ≡ drop (at + 16) old → IsAdded xs ks at old → IsAdded xs (ks ++ z) (at + 16) new
+added_more xs ks old new z s b at room eb es ls front rest h =
+    let lz : length z ≡ 16 = sym (length-on_bytes _ z b) ∙ sym (ap length es) ∙ ls in
+    let lb : length b ≡ 16 = ap length eb ∙ length-take-le 16 (drop at old) (omega (arith, length-drop at old)) in
+    let other : s ≡ xor_bytes b z = es ∙ xor_comm_bytes z b (lz ∙ sym lb) in
+    let b2 : b ≡ take 16 (drop at xs) = eb ∙ ap (λ (v : List ℕ). take 16 v) h.rest in
+    let left : length (drop at old) ≡ length (drop at xs) = ap length h.rest in
+    let lk : length ks ≡ at = h.count in
+    let long : at + 16 ≤ length xs = omega (arith, length-drop at old, length-drop at xs) in
+    let lt : length (take at xs) ≡ length ks = length-take-le at xs (omega arith) ∙ sym h.count in
+    record {
+      count = omega (arith, length-append ks z);
+      front = front ∙ ap (λ (v : List ℕ). v ++ s) h.front ∙ ap (λ (v : List ℕ). xor_bytes (take at xs) ks ++ v) (other ∙ ap (λ (v : List ℕ). xor_bytes v z) b2)
+          ∙ sym (on_bytes-append _ (take at xs) (take 16 (drop at xs)) ks z lt) ∙ ap (λ (v : List ℕ). xor_bytes v (ks ++ z)) (sym (take-add at 16 xs));
+      rest = rest ∙ sym (drop-drop 16 at old) ∙ ap (λ (v : List ℕ). drop 16 v) h.rest ∙ drop-drop 16 at xs;
+    }
+
+pub added_all : (xs ks now : List ℕ) (n : ℕ) → length xs ≡ n → length now ≡ length xs → IsAdded xs ks n now → now ≡ xor_bytes xs ks
+added_all xs ks now n lx ln h =
+    sym (take_all n now (omega arith)) ∙ h.front ∙ ap (λ (v : List ℕ). xor_bytes v ks) (take_all n xs (omega arith))
+
+-- ---- the blocks of a row
+
+pub one_put : (k : LaneCount) (out a b c d : List ℕ) → k ≡ One → length out ≡ 16 * lane_count k → take 16 out ≡ [] ++ a → out ≡ used_bytes k a b c d
+one_put k out a b c d h l e =
+    let P : LaneCount → Type 0 = λ j. length out ≡ 16 * lane_count j → out ≡ used_bytes j a b c d in
+    subst P (sym h) (λ n. sym (take_all 16 out (omega arith)) ∙ e) l
+
+pub two_put : (k : LaneCount) (out a b c d : List ℕ) → k ≡ Two → length out ≡ 16 * lane_count k → take 32 out ≡ ([] ++ a) ++ b → out ≡ used_bytes k a b c d
+two_put k out a b c d h l e =
+    let P : LaneCount → Type 0 = λ j. length out ≡ 16 * lane_count j → out ≡ used_bytes j a b c d in
+    subst P (sym h) (λ n. sym (take_all 32 out (omega arith)) ∙ e) l
+
+pub four_put : (k : LaneCount) (out a b c d : List ℕ) → k ≡ Four → length out ≡ 16 * lane_count k → take 64 out ≡ ((([] ++ a) ++ b) ++ c) ++ d → out ≡ used_bytes k a b c d
+four_put k out a b c d h l e =
+    let P : LaneCount → Type 0 = λ j. length out ≡ 16 * lane_count j → out ≡ used_bytes j a b c d in
+    subst P (sym h) (λ n. sym (take_all 64 out (omega arith)) ∙ e) l
+
+both : (xs ks now : List ℕ) (n : ℕ) → length xs ≡ n → length now ≡ length xs → IsAdded xs ks n now → (now ≡ xor_bytes xs ks) × (length ks ≡ length xs)
+both xs ks now n lx ln h = (added_all xs ks now n lx ln h, h.count ∙ sym lx)
+
+pub one_added : (k : LaneCount) (xs now a b c d : List ℕ) → k ≡ One → length xs ≡ 16 * lane_count k → length now ≡ length xs → IsAdded xs ([] ++ a) 16 now
+    → (now ≡ xor_bytes xs (used_bytes k a b c d)) × (length (used_bytes k a b c d) ≡ length xs)
+one_added k xs now a b c d h l ln e =
+    let P : LaneCount → Type 0 = λ j. length xs ≡ 16 * lane_count j → (now ≡ xor_bytes xs (used_bytes j a b c d)) × (length (used_bytes j a b c d) ≡ length xs) in
+    subst P (sym h) (λ n. both xs a now 16 n ln e) l
+
+pub two_added : (k : LaneCount) (xs now a b c d : List ℕ) → k ≡ Two → length xs ≡ 16 * lane_count k → length now ≡ length xs → IsAdded xs (([] ++ a) ++ b) 32 now
+    → (now ≡ xor_bytes xs (used_bytes k a b c d)) × (length (used_bytes k a b c d) ≡ length xs)
+two_added k xs now a b c d h l ln e =
+    let P : LaneCount → Type 0 = λ j. length xs ≡ 16 * lane_count j → (now ≡ xor_bytes xs (used_bytes j a b c d)) × (length (used_bytes j a b c d) ≡ length xs) in
+    subst P (sym h) (λ n. both xs (a ++ b) now 32 n ln e) l
+
+pub four_added : (k : LaneCount) (xs now a b c d : List ℕ) → k ≡ Four → length xs ≡ 16 * lane_count k → length now ≡ length xs → IsAdded xs (((([] ++ a) ++ b) ++ c) ++ d) 64 now
+    → (now ≡ xor_bytes xs (used_bytes k a b c d)) × (length (used_bytes k a b c d) ≡ length xs)
+four_added k xs now a b c d h l ln e =
+    let P : LaneCount → Type 0 = λ j. length xs ≡ 16 * lane_count j → (now ≡ xor_bytes xs (used_bytes j a b c d)) × (length (used_bytes j a b c d) ≡ length xs) in
+    subst P (sym h) (λ n. both xs (((a ++ b) ++ c) ++ d) now 64 n ln e) l
+
+-- the row of a function's blocks
+pub row_flat : (f : Lane → Block) (k : LaneCount) (a b c d : Lane) (p q r s : Block) → p ≡ f a → q ≡ f b → r ≡ f c → s ≡ f d
+    → used_bytes k p q r s ≡ flat_map f (used_lanes k a b c d)
+row_flat f One a b c d p q r s ea eb ec ed = ea ∙ sym (append-nil (f a))
+row_flat f Two a b c d p q r s ea eb ec ed = rw (ea, eb) (simp append-nil refl)
+row_flat f Four a b c d p q r s ea eb ec ed = rw (ea, eb, ec, ed) (simp (append-nil, append_assoc) refl)
+
+-- ---- two rows, each in its half
+
+half_count : (k : LaneCount) → 32 * lane_count k ≡ 32 * lane_count k / 2 + 32 * lane_count k / 2
+half_count One = refl
+half_count Two = refl
+half_count Four = refl
+
+pub half_of : (k : LaneCount) (rate n : ℕ) → rate ≡ 32 * lane_count k → n ≡ 32 * lane_count k → n ≡ rate / 2 + rate / 2
+half_of k rate n er en = en ∙ half_count k ∙ ap (λ (j : ℕ). j / 2 + j / 2) (sym er)
+
+pub halves_put : (out x y : List ℕ) (h : ℕ) → length out ≡ h + h → length x ≡ h
+    → put_mid h (length (x ++ drop h out) - h) (x ++ drop h out) y ≡ x ++ y
+halves_put out x y h lo lx =
+    let rest : List ℕ = drop h out in
+    let e : List ℕ = x ++ rest in
+    let lr : length rest ≡ h = length-drop h out ∙ omega arith in
+    let k : ℕ = length e - h in
+    let ek : k ≡ h = omega (arith, length-append x rest) in
+    let front : take h e ≡ x = take_at x rest h lx in
+    let back : drop h e ≡ rest = drop_at x rest h lx in
+    let gone : drop k (drop h e) ≡ [] = ap (λ (v : List ℕ). drop k v) back ∙ drop_all k rest (omega arith) in
+    ap (λ (v : List ℕ). v ++ (y ++ drop k (drop h e))) front ∙ ap (λ (v : List ℕ). x ++ (y ++ v)) gone ∙ ap (λ (v : List ℕ). x ++ v) (append-nil y)
+
+pub halves_added : (old j k x y : List ℕ) (h : ℕ) → length old ≡ h + h → x ≡ xor_bytes (take h old) j → length j ≡ length (take h old)
+    → y ≡ xor_bytes (take (length (x ++ drop h old) - h) (drop h (x ++ drop h old))) k
+    → put_mid h (length (x ++ drop h old) - h) (x ++ drop h old) y ≡ xor_bytes old (j ++ k)
+halves_added old j k x y h lo ex lj ey =
+    let lt : length (take h old) ≡ h = length-take-le h old (omega arith) in
+    let lx : length x ≡ h = ap length ex ∙ length-on_bytes _ (take h old) j ∙ lt in
+    let rest : List ℕ = drop h old in
+    let back : drop h (x ++ rest) ≡ rest = drop_at x rest h lx in
+    let ey2 : y ≡ xor_bytes rest k = ey ∙ ap (λ (v : List ℕ). xor_bytes v k) (take_rest (x ++ rest) h ∙ back) in
+    halves_put old x y h lo lx ∙ ap (λ (v : List ℕ). v ++ y) ex ∙ ap (λ (v : List ℕ). xor_bytes (take h old) j ++ v) ey2
+    ∙ sym (on_bytes-append _ (take h old) rest j k (sym lj)) ∙ ap (λ (v : List ℕ). xor_bytes v (j ++ k)) (take-append-drop h old)
