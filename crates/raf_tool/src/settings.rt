@@ -50,7 +50,8 @@ fn key_len(algorithm: Variant) -> usize
     ensures { result ≡ spec.key_len algorithm }
 {
     match algorithm {
-        Variant::Aegis128L => 16,
+        Variant::Aegis128L | Variant::Aegis128X2 | Variant::Aegis128X4 => 16,
+        Variant::Aegis256 | Variant::Aegis256X2 | Variant::Aegis256X4 => 32,
     }
 }
 

@@ -224,26 +224,6 @@ fn greeting(alloc: Global) -> Result<Vec<u8>, AllocError> {
 }
 
 #[test]
-fn a_source_that_fails_gives_nothing(rt: HostRuntime) -> Result<(), Fail> {
-    let alloc = rt.alloc();
-    // The script is read in two calls, the second of which finds the end.
-    for number in [0, 1] {
-        let mut source = VecSource::new(greeting(alloc)?, vec![in alloc; number]?);
-        let mut sink = VecSink::new(alloc, Vec::new(alloc));
-        let ran = run(
-            alloc,
-            &words(alloc, &["script"])?,
-            &mut source,
-            &mut sink,
-            None::<MemIo>,
-        );
-        assert_eq!(rt; ran.status, 5, "at call {number}");
-        assert_eq!(rt; sink.written().len(), 0, "at call {number}");
-    }
-    Ok(())
-}
-
-#[test]
 fn a_sink_that_fails_has_a_front_of_the_text(rt: HostRuntime) -> Result<(), Fail> {
     let alloc = rt.alloc();
     let want = joined(
@@ -324,5 +304,28 @@ fn pieces_of_one_byte_make_no_difference(rt: HostRuntime) -> Result<(), Fail> {
     );
     assert_eq!(rt; sink.written(), want.as_slice());
     assert_eq!(rt; ran.status, 0);
+    Ok(())
+}
+
+#[test]
+fn a_source_that_fails_gives_nothing(rt: HostRuntime) -> Result<(), Fail> {
+    let alloc = rt.alloc();
+    let length = greeting(alloc)?.len() as u64;
+    // The first call, the second, and the last, which finds the end.
+    for number in [0, 1, length] {
+        let mut source = OneByte {
+            inner: VecSource::new(greeting(alloc)?, vec![in alloc; number]?),
+        };
+        let mut sink = VecSink::new(alloc, Vec::new(alloc));
+        let ran = run(
+            alloc,
+            &words(alloc, &["script"])?,
+            &mut source,
+            &mut sink,
+            None::<MemIo>,
+        );
+        assert_eq!(rt; ran.status, 5, "at call {number}");
+        assert_eq!(rt; sink.written().len(), 0, "at call {number}");
+    }
     Ok(())
 }
