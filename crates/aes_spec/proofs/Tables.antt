@@ -83,6 +83,12 @@ S-lt b h =
     ltb-true (slice_index box b) 256 (and_parts (nat_lt (slice_index sources b) 256) (nat_lt (slice_index box b) 256) (all_below_at (λ b. nat_lt (slice_index sources b) 256 && nat_lt (slice_index box b) 256) 256 b small_right h)).1 in
     rw (S-table b h) small
 
+pub IS-lt : (b : ℕ) → b < 256 → IS b < 256
+IS-lt b h =
+    let small : slice_index sources b < 256 =
+    ltb-true (slice_index sources b) 256 (and_parts (nat_lt (slice_index sources b) 256) (nat_lt (slice_index box b) 256) (all_below_at (λ b. nat_lt (slice_index sources b) 256 && nat_lt (slice_index box b) 256) 256 b small_right h)).0 in
+    rw (IS-table b h) small
+
 -- the affine map as the code has it
 abbrev pub rotated_sum : ℕ → ℕ
 rotated_sum b = bit_xor (bit_xor (bit_xor (bit_xor (bit_xor b (rotate_left w8 b 1)) (rotate_left w8 b 2)) (rotate_left w8 b 3)) (rotate_left w8 b 4)) 0x63

@@ -4,7 +4,11 @@
 mod command;
 mod data;
 mod errors;
+pub mod format;
+mod loading;
 mod memory;
+mod opening;
+mod outside;
 mod source;
 mod storage;
 pub mod tree;

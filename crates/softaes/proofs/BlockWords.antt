@@ -7,7 +7,7 @@ use Rattle.aes_spec.specs.Words.{word_byte}
 use Rattle.aes_spec.proofs.Linear.{byte-xor}
 use Rattle.softaes.specs.Blocks.{bytes_of}
 
-byte-and : (a b j : ℕ) → word_byte (bit_and a b) j ≡ bit_and (word_byte a j) (word_byte b j)
+pub byte-and : (a b j : ℕ) → word_byte (bit_and a b) j ≡ bit_and (word_byte a j) (word_byte b j)
 byte-and a b j = ap (λ x. x % 2 ^ 8) (and_shr a b (8 * j)) ∙ and_mod (a / 2 ^ (8 * j)) (b / 2 ^ (8 * j)) 8
 
 pub bytes_of-xor : (a b c d : ℕ) → bytes_of (bit_xor a c) (bit_xor b d) ≡ xor_bytes (bytes_of a b) (bytes_of c d)
@@ -56,7 +56,7 @@ bytes_of-and a b c d = λ i.
 abbrev pub word_bytes : ℕ → ℕ → List ℕ
 word_bytes lo hi = block (λ i. if nat_lt i 8 then word_byte lo i else word_byte hi (i - 8))
 
-first_byte : (x : ℕ) → x % 2 ^ 8 ≡ word_byte x 0
+pub first_byte : (x : ℕ) → x % 2 ^ 8 ≡ word_byte x 0
 first_byte x = omega arith
 
 pub bytes_of-word_bytes : (lo hi : ℕ) → bytes_of lo hi ≡ word_bytes lo hi

@@ -12,7 +12,7 @@ use Rattle.aes_spec.specs.Field.{carryless, remainder, mul}
 use Rattle.aes_spec.specs.KeySchedule.{power, changed, key_words, next_word, rot_word, sub_word, with_next, word_at}
 use Rattle.aes_spec.proofs.Linear.{byte-xor}
 use Rattle.aes_spec.proofs.Tables.{all_below, all_below_at}
-use Rattle.softaes.specs.declared.key_schedule.TheConstants.{ROUND_CONSTANTS}
+use Rattle.softaes.specs.declared.schedule.TheConstants.{ROUND_CONSTANTS}
 
 -- the bytes of a word
 abbrev pub le : ℕ → List ℕ

@@ -2,6 +2,7 @@
 pub mod AtPositions
 pub mod Back
 pub mod BlockWords
+pub mod ColumnWords
 pub mod ForwardRounds
 pub mod GatePlanes
 pub mod GateWords
@@ -18,3 +19,6 @@ pub mod SamePlanes
 pub mod ShiftedRows
 pub mod SubBytes
 pub mod Swapped
+pub mod TableColumns
+pub mod TableRounds
+pub mod TableWords

@@ -6,6 +6,8 @@ ghost use Rattle.aes_spec.specs.Cipher.{cipher, decipher, with_rounds};
 ghost use Rattle.aes_spec.specs.Planes.{byte_at};
 ghost use Rattle.aes_spec.specs.Rounds.{R, RL, IR, IRL};
 
+pub mod paths;
+
 use crate::circuit::{load, store, swap_index_bits_6_2};
 use crate::key_schedule::{
     inverse_key_schedule_128, inverse_key_schedule_192, inverse_key_schedule_256,
@@ -79,7 +81,7 @@ pub fn deciphered_256(key: &[u8; 32], block: &[u8; 16]) -> [u8; 16]
 }
 
 /// All rounds of the cipher (FIPS 197, section 5.1) under its round keys.
-pub(crate) fn encrypted(keys: &[Block], block: &Block) -> Block
+fn encrypted(keys: &[Block], block: &Block) -> Block
     requires { 2 ≤ length keys.now }
     ensures { result ≡ with_rounds R RL keys.now block.now }
 {
@@ -92,7 +94,7 @@ pub(crate) fn encrypted(keys: &[Block], block: &Block) -> Block
 }
 
 /// All rounds of the equivalent inverse cipher (FIPS 197, section 5.3.5) under its round keys.
-pub(crate) fn decrypted(keys: &[Block], block: &Block) -> Block
+fn decrypted(keys: &[Block], block: &Block) -> Block
     requires { 2 ≤ length keys.now }
     ensures { result ≡ with_rounds IR IRL keys.now block.now }
 {

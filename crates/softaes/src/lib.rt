@@ -1,7 +1,8 @@
 //! The AES round in software, without instructions of the processor, after the crate `softaes` 0.1.7.
 //!
-//! [`SoftAes`] has the rounds over [`Block`], on gates. [`RoundBlock`] is what a cipher that is built of
-//! AES rounds needs of a block. No call here fails or takes memory.
+//! [`SoftAes`] has the rounds over [`Block`] and [`key_schedule`] the round keys, both on gates; the module
+//! [`unprotected`] has the same calls by tables. [`RoundBlock`] is what a cipher that is built of AES rounds
+//! needs of a block. No call here fails or takes memory.
 #![tactic(auto)]
 
 ghost use Rattle.std.specs.Prelude.{◌≡◌, ℕ, List};
@@ -13,8 +14,10 @@ pub mod circuit;
 pub mod key_schedule;
 pub mod laws;
 mod rounds;
+mod schedule;
 #[cfg(test)]
 mod tests;
+pub mod unprotected;
 
 pub use block::Block;
 pub use rounds::{SoftAes, SoftAesFast, SoftAesModerate, SoftAesSlow};

@@ -1,11 +1,7 @@
 //! Vectors from outside, the printed text, and the rounds against a plain program.
 
-use crate::key_schedule::{
-    inverse_key_schedule_128, inverse_key_schedule_192, inverse_key_schedule_256,
-    key_expansion_128, key_expansion_192, key_expansion_256,
-};
-use crate::laws::{decrypted, encrypted};
-use crate::{Block, RoundBlock, SoftAes};
+use crate::unprotected::key_schedule as by_tables;
+use crate::{Block, RoundBlock, SoftAes, key_schedule, unprotected};
 use aes_spec::{gf_mul, sbox};
 use std::test::Fail;
 
@@ -15,6 +11,8 @@ const SUBSTITUTED_ZEROS: [u8; 16] = [0x63; 16];
 
 /// The bytes 00 to 0f, and 10 to 1f.
 const COUNTED: [u8; 16] = [0, 1, 2, 3, 4, 5, 6, 7, 8, 9, 10, 11, 12, 13, 14, 15];
+
+const SEVENTEEN: [u8; 17] = [0, 1, 2, 3, 4, 5, 6, 7, 8, 9, 10, 11, 12, 13, 14, 15, 16];
 
 const COUNTED_ON: [u8; 16] = [
     16, 17, 18, 19, 20, 21, 22, 23, 24, 25, 26, 27, 28, 29, 30, 31,
@@ -52,74 +50,113 @@ const CIPHER_256: [u8; 16] = [
     0x8e, 0xa2, 0xb7, 0xca, 0x51, 0x67, 0x45, 0xbf, 0xea, 0xfc, 0x49, 0x90, 0x4b, 0x49, 0x60, 0x89,
 ];
 
+/// Round key 1 of the zero key.
+const ZERO_ROUND_KEY: [u8; 16] = [
+    0x62, 0x63, 0x63, 0x63, 0x62, 0x63, 0x63, 0x63, 0x62, 0x63, 0x63, 0x63, 0x62, 0x63, 0x63, 0x63,
+];
+
 /// The round by any block type.
 fn round_of<B: RoundBlock>(block: &[u8; 16], key: &[u8; 16]) -> [u8; 16] {
     B::from_bytes(block).round(&B::from_bytes(key)).to_bytes()
 }
 
-#[test]
-fn rounds_have_the_values_of_the_vectors(rt: HostRuntime) {
-    for (block, key, want) in [
-        (ZEROS, ZEROS, SUBSTITUTED_ZEROS),
-        (COUNTED, COUNTED_ON, ROUND),
-    ] {
-        let (b, k) = (Block::from_bytes(&block), Block::from_bytes(&key));
-        assert_eq!(rt; SoftAes::block_encrypt(&b, &k).to_bytes(), want);
-        assert_eq!(rt; round_of::<Block>(&block, &key), want);
-    }
-    let zero = Block::default();
-    let last = SoftAes::block_encrypt_last(&zero, &zero);
-    assert_eq!(rt; last.to_bytes(), SUBSTITUTED_ZEROS);
-    assert_eq!(rt; SoftAes::block_decrypt_last(&last, &zero), zero);
+/// The rounds of one path at the vectors.
+macro_rules! rounds_at_vectors {
+    ($rt:ident, $block:ty, $aes:ty) => {{
+        for (block, key, want) in [(ZEROS, ZEROS, SUBSTITUTED_ZEROS), (COUNTED, COUNTED_ON, ROUND)] {
+            let (b, k) = (<$block>::from_bytes(&block), <$block>::from_bytes(&key));
+            assert_eq!($rt; <$aes>::block_encrypt(&b, &k).to_bytes(), want);
+            assert_eq!($rt; round_of::<$block>(&block, &key), want);
+        }
+        let zero = <$block>::default();
+        let last = <$aes>::block_encrypt_last(&zero, &zero);
+        assert_eq!($rt; last.to_bytes(), SUBSTITUTED_ZEROS);
+        assert_eq!($rt; <$aes>::block_decrypt_last(&last, &zero), zero);
+    }};
 }
 
 #[test]
-fn ciphers_have_the_values_of_the_standard(rt: HostRuntime) {
-    let plain = Block::from_bytes(&PLAIN);
+fn rounds_have_the_values_of_the_vectors(rt: HostRuntime) {
+    rounds_at_vectors!(rt, Block, SoftAes);
+    rounds_at_vectors!(rt, unprotected::Block, unprotected::SoftAes);
+}
 
-    let keys = key_expansion_128(&COUNTED);
-    let cipher = encrypted(&keys, &plain);
-    assert_eq!(rt; cipher.to_bytes(), CIPHER_128);
-    assert_eq!(rt; decrypted(&inverse_key_schedule_128(&keys), &cipher), plain);
+/// A block through all rounds under the keys.
+macro_rules! through {
+    ($keys:expr, $block:expr, $aes:ty, $whole:ident, $last:ident) => {{
+        let keys = &$keys[..];
+        let end = keys.len() - 1;
+        let mut state = $block.xor(&keys[0]);
+        for j in 1..end {
+            state = <$aes>::$whole(&state, &keys[j]);
+        }
+        <$aes>::$last(&state, &keys[end])
+    }};
+}
 
-    let keys = key_expansion_192(&KEY_192);
-    let cipher = encrypted(&keys, &plain);
-    assert_eq!(rt; cipher.to_bytes(), CIPHER_192);
-    assert_eq!(rt; decrypted(&inverse_key_schedule_192(&keys), &cipher), plain);
+/// One key's cipher text by one path, and back.
+macro_rules! cipher_at_vector {
+    ($rt:ident, $block:ty, $aes:ty, $schedule:ident, $expand:ident, $invert:ident, $key:expr, $want:expr) => {{
+        let plain = <$block>::from_bytes(&PLAIN);
+        let keys = $schedule::$expand(&$key);
+        let cipher = through!(keys, plain, $aes, block_encrypt, block_encrypt_last);
+        assert_eq!($rt; cipher.to_bytes(), $want);
+        let back = $schedule::$invert(&keys);
+        let again = through!(back, cipher, $aes, block_decrypt, block_decrypt_last);
+        assert_eq!($rt; again, plain);
+    }};
+}
 
-    let keys = key_expansion_256(&KEY_256);
-    let cipher = encrypted(&keys, &plain);
-    assert_eq!(rt; cipher.to_bytes(), CIPHER_256);
-    assert_eq!(rt; decrypted(&inverse_key_schedule_256(&keys), &cipher), plain);
+/// The ciphers of one path at the standard's vectors.
+macro_rules! ciphers_at_vectors {
+    ($rt:ident, $block:ty, $aes:ty, $schedule:ident) => {{
+        cipher_at_vector!(
+            $rt, $block, $aes, $schedule, key_expansion_128, inverse_key_schedule_128, COUNTED, CIPHER_128
+        );
+        cipher_at_vector!(
+            $rt, $block, $aes, $schedule, key_expansion_192, inverse_key_schedule_192, KEY_192, CIPHER_192
+        );
+        cipher_at_vector!(
+            $rt, $block, $aes, $schedule, key_expansion_256, inverse_key_schedule_256, KEY_256, CIPHER_256
+        );
+        let zero_keys = &$schedule::key_expansion_128(&ZEROS)[..];
+        assert_eq!($rt; zero_keys[1].to_bytes(), ZERO_ROUND_KEY);
+    }};
+}
 
-    let zero_keys = &key_expansion_128(&ZEROS)[..];
-    let round_key = [
-        0x62, 0x63, 0x63, 0x63, 0x62, 0x63, 0x63, 0x63, 0x62, 0x63, 0x63, 0x63, 0x62, 0x63, 0x63,
-        0x63,
-    ];
-    assert_eq!(rt; zero_keys[1].to_bytes(), round_key);
+#[test]
+fn ciphers_by_gates_have_the_values_of_the_standard(rt: HostRuntime) {
+    ciphers_at_vectors!(rt, Block, SoftAes, key_schedule);
+}
+
+#[test]
+fn ciphers_by_tables_have_the_values_of_the_standard(rt: HostRuntime) {
+    ciphers_at_vectors!(rt, unprotected::Block, unprotected::SoftAes, by_tables);
+}
+
+/// The blocks of one path, and their operators.
+macro_rules! blocks_at_vectors {
+    ($rt:ident, $block:ty) => {{
+        let two_words = <$block>::from64x2(1, 2);
+        assert_eq!($rt; two_words.to_bytes(), [2, 0, 0, 0, 0, 0, 0, 0, 1, 0, 0, 0, 0, 0, 0, 0]);
+        let counted = <$block>::from_slice(&SEVENTEEN);
+        assert_eq!($rt; counted.to_bytes(), COUNTED);
+        assert_eq!($rt; counted, <$block>::from_bytes(&COUNTED));
+        assert_ne!($rt; counted, two_words);
+        assert_eq!($rt; counted ^ two_words, counted.xor(&two_words));
+        assert_eq!($rt; &counted ^ &counted, <$block>::default());
+        assert_eq!($rt; counted & counted, &counted & &counted);
+    }};
 }
 
 #[test]
 fn blocks_are_made_and_printed(rt: HostRuntime) -> Result<(), Fail> {
-    let two_words = Block::from64x2(1, 2);
-    assert_eq!(rt;
-        two_words.to_bytes(),
-        [2, 0, 0, 0, 0, 0, 0, 0, 1, 0, 0, 0, 0, 0, 0, 0]
-    );
-    let mut bytes = [0; 17];
-    for i in 0..17u8 {
-        bytes[i as usize] = i;
-    }
-    let counted = Block::from_slice(&bytes);
-    assert_eq!(rt; counted.to_bytes(), COUNTED);
-    assert_eq!(rt; counted, Block::from_bytes(&COUNTED));
-    assert_ne!(rt; counted, two_words);
-    assert_eq!(rt; counted ^ two_words, counted.xor(&two_words));
-    assert_eq!(rt; &counted ^ &counted, Block::default());
-    assert_eq!(rt; counted & counted, &counted & &counted);
-    let text = format!(in rt.alloc(); "{two_words:?}")?;
+    blocks_at_vectors!(rt, Block);
+    blocks_at_vectors!(rt, unprotected::Block);
+    let text = format!(in rt.alloc(); "{:?}", Block::from64x2(1, 2))?;
     assert_eq!(rt; text.as_str(), "Block { lo: 2, hi: 1 }");
+    let text = format!(in rt.alloc(); "{:?}", unprotected::Block::from64x2(1, 2))?;
+    assert_eq!(rt; text.as_str(), "Block { c0: 2, c1: 0, c2: 1, c3: 0 }");
     Ok(())
 }
 
@@ -148,7 +185,7 @@ fn next(state: u64) -> u64 {
 }
 
 #[test]
-fn gates_agree_with_a_plain_program(rt: HostRuntime) {
+fn both_paths_agree_with_a_plain_program(rt: HostRuntime) {
     let mut table = [0; 256];
     for i in 0..256usize {
         table[i] = sbox(i as u8);
@@ -159,8 +196,10 @@ fn gates_agree_with_a_plain_program(rt: HostRuntime) {
         let high = next(low);
         let key_low = next(high);
         state = next(key_low);
-        let (block, key) = (Block::from64x2(high, low), Block::from64x2(state, key_low));
-        let want = plain_round(&table, &block.to_bytes(), &key.to_bytes());
-        assert_eq!(rt; SoftAes::block_encrypt(&block, &key).to_bytes(), want);
+        let block = Block::from64x2(high, low).to_bytes();
+        let key = Block::from64x2(state, key_low).to_bytes();
+        let want = plain_round(&table, &block, &key);
+        assert_eq!(rt; round_of::<Block>(&block, &key), want);
+        assert_eq!(rt; round_of::<unprotected::Block>(&block, &key), want);
     }
 }

@@ -1,0 +1,28 @@
+-- The round, column by column.
+use Rattle.std.proofs.Common.{◌^◌, ◌<◌, ◌∙◌, rules}
+use Rattle.std.proofs.lemmas.Nat.{xor_lt}
+use Rattle.aes_spec.specs.Rounds.{R}
+use Rattle.softaes.proofs.TableRounds.{round}
+use Rattle.softaes.proofs.unprotected.rounds.SoftAes.block_encrypt.Goals as goal
+
+pub invariant_of-result : goal.invariant_of-result
+invariant_of-result c =
+    let m0 = c.column.result in
+    let m1 = c.column-2.result in
+    let m2 = c.column-3.result in
+    let m3 = c.column-4.result in
+    let k = c.rk.inside in
+    let h = c.rk.invariant in
+    let f0 : m0 < 2 ^ 32 = search rules in
+    let f1 : m1 < 2 ^ 32 = search rules in
+    let f2 : m2 < 2 ^ 32 = search rules in
+    let f3 : m3 < 2 ^ 32 = search rules in
+    (xor_lt 32 m0 k.c0 f0 h.0, xor_lt 32 m1 k.c1 f1 h.1, xor_lt 32 m2 k.c2 f2 h.2, xor_lt 32 m3 k.c3 f3 h.3)
+
+pub returns : goal.returns
+returns c =
+    let x = c.block.inside in
+    let k = c.rk.inside in
+    round x.c0 x.c1 x.c2 x.c3 c.column.result c.column-2.result c.column-3.result c.column-4.result k.c0 k.c1 k.c2 k.c3
+    c.column.ensures c.column-2.ensures c.column-3.ensures c.column-4.ensures
+    ∙ (λ i. R (c.block.view_is i) (c.rk.view_is i))
