@@ -1,9 +1,12 @@
 -- What a splice and a failed call leave.
-use Rattle.std.proofs.Common.{◌≡◌, inl, inr, ℕ, ◌+◌, ◌-◌, ◌<◌, ◌≤◌, min, max, List, [], ◌∷◌, ◌++◌, length, take, drop, replicate, refl, sym, ◌∙◌, ap, arith, length-append, length-take, add_comm}
+use Rattle.std.proofs.Common.{◌≡◌, inl, inr, ℕ, ◌+◌, ◌-◌, ◌<◌, ◌≤◌, min, max, List, [], ◌∷◌, ◌++◌, length, take, drop, replicate, Option, Some, None, Result, Ok, Err, subst, append_assoc, refl, sym, ◌∙◌, ap, arith, length-append, length-take, add_comm}
 use Rattle.std.proofs.lemmas.List.{take_all, drop_all, append-nil, take-append-le, take-take, take-replicate, length-replicate}
 use Rattle.std.proofs.Math.Seq.{take-append-add}
 use Rattle.std.proofs.lemmas.Bool.{cases_lt}
-use Rattle.raf.specs.Storage.{Torn, Cut, resized, spliced}
+use Rattle.std.specs.Result.{OnOk, OnErr}
+use Rattle.std.specs.Option.{option_map}
+use Rattle.raf.specs.Storage.{Torn, Cut, Told, resized, spliced}
+use Rattle.raf.specs.Loaded.{LeavesHeader}
 
 pub resized_cut : (n : ℕ) (b : List ℕ) → n ≤ length b → resized n b ≡ take n b
 resized_cut n b le = let e : n - length b ≡ 0 = omega arith in ap (λ (k : ℕ). take n b ++ replicate k 0) e ∙ append-nil (take n b)
@@ -73,3 +76,25 @@ spliced_by_inside at new b m is le = ap (λ (l : List ℕ). take at l ++ new ++ 
 
 pub spliced_by_growth : (at : ℕ) (new b m : List ℕ) → m ≡ resized (at + length new) b → length b ≤ at + length new → take at m ++ new ++ drop (at + length new) m ≡ spliced at new b
 spliced_by_growth at new b m is le = ap (λ (l : List ℕ). take at l ++ new ++ drop (at + length new) l) is ∙ spliced_grown at new b le
+
+-- a write from offset 96 on leaves the first 96 bytes, also where it failed
+pub leaves_header : {E : Type 0} (r : Result (Unit {0}) E) (old new : Option (List ℕ)) (offset : ℕ) (text b : List ℕ)
+    → OnOk r (new ≡ option_map (spliced offset text) old) → OnErr r (Told (Torn offset (length text)) old new) → old ≡ Some b → LeavesHeader offset b new
+leaves_header (Ok x) old new offset text b written torn is = (spliced offset text b, written ∙ ap (option_map (spliced offset text)) is, kept)
+  where
+    kept : 96 ≤ offset → 96 ≤ length b → take 96 (spliced offset text b) ≡ take 96 b
+    kept far long =
+        ap (λ (l : List ℕ). take 96 l) (append_assoc (resized offset b) text (drop (offset + length text) b))
+        ∙ take-append-le 96 (resized offset b) (text ++ drop (offset + length text) b) (omega (arith, length-resized offset b))
+        ∙ take-resized 96 offset b far
+        ∙ resized_cut 96 b long
+leaves_header (Err e) old new offset text b written torn is = go new (subst (λ (o : Option (List ℕ)). Told (Torn offset (length text)) o new) is torn)
+  where
+    go : (new : Option (List ℕ)) → Told (Torn offset (length text)) (Some b) new → LeavesHeader offset b new
+    go None t = absurd t
+    go (Some c) t = (
+      c,
+      refl,
+      λ far long.
+          sym (take-take 96 (min offset (length b)) c (omega arith)) ∙ ap (λ (l : List ℕ). take 96 l) t.before ∙ take-take 96 offset b far,
+    )

@@ -15,3 +15,4 @@ pub mod Image
 pub mod Session
 pub mod Stepped
 pub mod Loaded
+pub mod Ended

@@ -64,11 +64,12 @@ abbrev pub WhyRefused : Cipher → List ℕ → List ℕ → List Command → Er
 WhyRefused C key b commands Unbuilt = (2 ^ 64 ≤ read_total commands) ⊎ ((read_total commands < 2 ^ 64) × NotOpenable C b)
 WhyRefused C key b commands kind = (read_total commands < 2 ^ 64) × WhyNotOpened C key b kind
 
--- a session that was refused: the cause where the storage tells its bytes, and over any storage; nothing changed, and 96 bytes at most
--- were read, within those that the storage tells
+-- a session that was refused: the cause where the storage tells its bytes, and over any storage; where the lengths are the cause nothing
+-- was asked; nothing changed, and 96 bytes at most were read, within those that the storage tells
 pub record Refusal (C : Cipher) (key : List ℕ) (commands : List Command) (before after : Outside) (kind : ErrorKind) : Type 0 where
   pub why : (b : List ℕ) → before.bytes ≡ Some b → WhyRefused C key b commands kind
   pub number : kind ≡ Unbuilt ⊎ (read_total commands < 2 ^ 64)
+  pub first : 2 ^ 64 ≤ read_total commands → after ≡ before
   pub count : OpeningFault kind before after
   pub kept : Kept before after
   pub rng_faults : after.rng_faults ≡ before.rng_faults

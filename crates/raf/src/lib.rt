@@ -9,13 +9,17 @@ mod loading;
 mod memory;
 mod opening;
 mod outside;
+mod serving;
 mod source;
+mod stepping;
 mod storage;
+mod storing;
 pub mod tree;
 
 pub use command::{Command, Replies, Reply};
 pub use data::Data;
 pub use errors::{Error, ErrorKind, Reason};
 pub use memory::MemIo;
+pub use serving::{RafBuilder, SessionEnd, session};
 pub use source::{RafRng, VecRng};
 pub use storage::RafIo;

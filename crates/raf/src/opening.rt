@@ -28,6 +28,17 @@ pub struct OpenFile<A: Algorithm> {
     ghost derived: { A.key_list chunk_key ≡ (cipher_of A.variant).chunk_key (A.key_list key) header.id },
 }
 
+impl<A: Algorithm> Drop for OpenFile<A> {
+    fn drop(self) {
+        let OpenFile {
+            key: _,
+            chunk_key: _,
+            header: _,
+            buf: _,
+        } = self;
+    }
+}
+
 // How long the records of a file of at most one chunk are.
 fn records_len<A: Algorithm>(size: u64, chunk_size: u32) -> u64
     requires { size ≤ chunk_size }

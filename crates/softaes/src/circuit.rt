@@ -28,6 +28,7 @@ const EIGHTS: u64 = 0x8888_8888_8888_8888;
 
 /// Exchanges the upper four bits of each byte of `lo` with the lower four bits of that byte of `hi`, and
 /// gives both words. Done twice, it gives back what was there.
+#[inline]
 pub fn swap_index_bits_6_2(lo: u64, hi: u64) -> (u64, u64)
     ensures low { (i : ℕ) → i < 64 → bit_at result.0 i ≡ swapped_low lo hi i }
     ensures high { (i : ℕ) → i < 64 → bit_at result.1 i ≡ swapped_high lo hi i }
@@ -38,6 +39,7 @@ pub fn swap_index_bits_6_2(lo: u64, hi: u64) -> (u64, u64)
 
 /// The bytes of two words as planes: byte k of `lo` stands at position 8k, that of `hi` at position
 /// 8k + 4, for k from 0 to 7. At all other positions stands 0.
+#[inline]
 pub fn load(lo: u64, hi: u64) -> [u64; 8]
     ensures low { (k : ℕ) → k < 8 → byte_at result (8 * k) ≡ word_byte lo k }
     ensures high { (k : ℕ) → k < 8 → byte_at result (8 * k + 4) ≡ word_byte hi k }
@@ -58,6 +60,7 @@ pub fn load(lo: u64, hi: u64) -> [u64; 8]
 
 /// The two words whose bytes stand at the positions 8k and 8k + 4 of the planes. What stands at other
 /// positions is not read.
+#[inline]
 pub fn store(p: &[u64; 8]) -> (u64, u64)
     ensures low { (k : ℕ) → k < 8 → word_byte result.0 k ≡ byte_at p.now (8 * k) }
     ensures high { (k : ℕ) → k < 8 → word_byte result.1 k ≡ byte_at p.now (8 * k + 4) }
@@ -76,6 +79,7 @@ pub fn store(p: &[u64; 8]) -> (u64, u64)
 /// lies in GF(16), and 1/x = (L / x^17) Y^16 + (H / x^17) Y. GF(16) stands over GF(4) in the same way. A
 /// product in GF(16) takes nine forms of each factor, by two steps of Karatsuba: its bits 0, 1, 0+1, 2,
 /// 3, 2+3, 0+2, 1+3 and 0+1+2+3.
+#[inline(always)]
 fn gates(planes: &[u64; 8]) -> [u64; 8]
     ensures { result ≡ sbox_gates (2 ^ 64 - 1) planes.now }
 {
@@ -208,6 +212,7 @@ fn gates(planes: &[u64; 8]) -> [u64; 8]
 }
 
 /// The S-box without its constant 0x63, in place, at each of the 64 bit positions.
+#[inline(always)]
 pub fn sbox_core(planes: &mut [u64; 8])
     ensures { (i : ℕ) → i < 64 → byte_at planes.new i ≡ bit_xor (S (byte_at planes.old i)) 0x63 }
 {
@@ -217,6 +222,7 @@ pub fn sbox_core(planes: &mut [u64; 8])
 /// The inverse of the linear part of the S-box's affine map. That part adds to the bit of weight 2^i the
 /// bits i + 4 to i + 7 modulo 8, so its inverse is the sum of the bits i + 2, i + 5 and i + 7: for plane k
 /// the planes k + 1, k + 3 and k + 6.
+#[inline]
 fn undo_linear(planes: &[u64; 8]) -> [u64; 8]
     ensures { result ≡ undo_linear planes.now }
 {
@@ -235,6 +241,7 @@ fn undo_linear(planes: &[u64; 8]) -> [u64; 8]
 
 /// The inverse S-box of each byte under its constant, `b ^ 0x63`, in place, at each of the 64 bit
 /// positions: the S-box's gates between two linear maps, since inversion in the field is its own inverse.
+#[inline(always)]
 pub fn inv_sbox_core(planes: &mut [u64; 8])
     ensures { (i : ℕ) → i < 64 → byte_at planes.new i ≡ IS (bit_xor (byte_at planes.old i) 0x63) }
 {
@@ -244,6 +251,7 @@ pub fn inv_sbox_core(planes: &mut [u64; 8])
 }
 
 /// The sum of each row of two columns and the row below it.
+#[inline]
 fn pairs(x: u64) -> u64
     ensures { result ≡ pairs x }
 {
@@ -251,6 +259,7 @@ fn pairs(x: u64) -> u64
 }
 
 /// In each row of two columns the row two below it.
+#[inline]
 fn opposite(x: u64) -> u64
     ensures { result ≡ opposite x }
 {
@@ -258,6 +267,7 @@ fn opposite(x: u64) -> u64
 }
 
 /// Each byte twice in the field.
+#[inline]
 fn twice(x: u64) -> u64
     ensures { result ≡ twice x }
 {
@@ -267,6 +277,7 @@ fn twice(x: u64) -> u64
 
 /// MixColumns (FIPS 197, section 5.1.3) on two columns of four bytes each, little-endian. Each row
 /// becomes twice the sum of itself and the row below it, and the three other rows.
+#[inline]
 pub fn mix_columns(x: u64) -> u64
     ensures { (c r : ℕ) → c < 2 → r < 4 → word_byte result (4 * c + r) ≡ mixed r (λ k. word_byte x (4 * c + k)) }
 {
@@ -277,6 +288,7 @@ pub fn mix_columns(x: u64) -> u64
 /// InvMixColumns (FIPS 197, section 5.3.3) on two columns of four bytes each, little-endian. By the bits
 /// of 0e, 0b, 0d and 09, row r becomes 8 times all rows, 4 times the rows r and r + 2, twice the rows r
 /// and r + 1, and the three other rows; here by Horner's rule.
+#[inline]
 pub fn inv_mix_columns(x: u64) -> u64
     ensures { (c r : ℕ) → c < 2 → r < 4 → word_byte result (4 * c + r) ≡ inv_mixed r (λ k. word_byte x (4 * c + k)) }
 {

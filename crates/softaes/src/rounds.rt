@@ -23,17 +23,19 @@ const CONSTANT: u64 = 0x6363_6363_6363_6363;
 /// branches on the block or the key.
 pub struct SoftAes;
 
-/// The same rounds, under the name of a slower variant of other versions of this library.
+/// [`SoftAes`] by the name that upstream gives to a variant with another trade of speed for protection; here
+/// all names mean the same gates.
 pub type SoftAesSlow = SoftAes;
 
-/// The same rounds, under the name of a variant of other versions of this library.
+/// As [`SoftAesSlow`].
 pub type SoftAesModerate = SoftAes;
 
-/// The same rounds, under the name of a faster variant of other versions of this library.
+/// As [`SoftAesSlow`].
 pub type SoftAesFast = SoftAes;
 
 impl SoftAes {
     /// The forward round: SubBytes, ShiftRows, MixColumns and AddRoundKey.
+    #[inline]
     pub fn block_encrypt(block: &Block, rk: &Block) -> Block
         ensures { result ≡ R block.now rk.now }
     {
@@ -46,6 +48,7 @@ impl SoftAes {
     }
 
     /// The last forward round, which has no MixColumns.
+    #[inline]
     pub fn block_encrypt_last(block: &Block, rk: &Block) -> Block
         ensures { result ≡ RL block.now rk.now }
     {
@@ -59,6 +62,7 @@ impl SoftAes {
 
     /// The inverse round of the equivalent inverse cipher (FIPS 197, section 5.3.5): InvShiftRows,
     /// InvSubBytes, InvMixColumns and AddRoundKey.
+    #[inline]
     pub fn block_decrypt(block: &Block, rk: &Block) -> Block
         ensures { result ≡ IR block.now rk.now }
     {
@@ -71,6 +75,7 @@ impl SoftAes {
     }
 
     /// The last inverse round, which has no InvMixColumns.
+    #[inline]
     pub fn block_decrypt_last(block: &Block, rk: &Block) -> Block
         ensures { result ≡ IRL block.now rk.now }
     {
@@ -85,6 +90,7 @@ impl SoftAes {
 
 /// ShiftRows on the words of a block. Row r turns left by r columns, so it is taken from the block that
 /// is turned by r columns as a whole.
+#[inline]
 fn shift_rows(lo: u64, hi: u64) -> (u64, u64)
     ensures { bytes_of result.0 result.1 ≡ shift_rows (bytes_of lo hi) }
 {
@@ -97,6 +103,7 @@ fn shift_rows(lo: u64, hi: u64) -> (u64, u64)
 }
 
 /// SubBytes on the words of a block, through the planes.
+#[inline]
 pub(crate) fn sub_bytes(lo: u64, hi: u64) -> (u64, u64)
     ensures { bytes_of result.0 result.1 ≡ sub_bytes (bytes_of lo hi) }
 {
@@ -107,6 +114,7 @@ pub(crate) fn sub_bytes(lo: u64, hi: u64) -> (u64, u64)
 }
 
 /// InvShiftRows on the words of a block: row r turns right by r columns, which is left by 4 - r.
+#[inline]
 fn inv_shift_rows(lo: u64, hi: u64) -> (u64, u64)
     ensures { bytes_of result.0 result.1 ≡ inv_shift_rows (bytes_of lo hi) }
 {
@@ -119,6 +127,7 @@ fn inv_shift_rows(lo: u64, hi: u64) -> (u64, u64)
 }
 
 /// InvSubBytes on the words of a block, through the planes.
+#[inline]
 fn inv_sub_bytes(lo: u64, hi: u64) -> (u64, u64)
     ensures { bytes_of result.0 result.1 ≡ inv_sub_bytes (bytes_of lo hi) }
 {

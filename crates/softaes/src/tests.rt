@@ -1,5 +1,10 @@
 //! Vectors from outside, the printed text, and the rounds against a plain program.
 
+ghost use Rattle.std.specs.Prelude.{◌≤◌, length};
+
+use crate::laws::cipher::{
+    ciphered_128, ciphered_192, ciphered_256, deciphered_128, deciphered_192, deciphered_256,
+};
 use crate::unprotected::key_schedule as by_tables;
 use crate::{Block, RoundBlock, SoftAes, key_schedule, unprotected};
 use aes_spec::{gf_mul, sbox};
@@ -81,57 +86,75 @@ fn rounds_have_the_values_of_the_vectors(rt: HostRuntime) {
     rounds_at_vectors!(rt, unprotected::Block, unprotected::SoftAes);
 }
 
-/// A block through all rounds under the keys.
-macro_rules! through {
-    ($keys:expr, $block:expr, $aes:ty, $whole:ident, $last:ident) => {{
-        let keys = &$keys[..];
-        let end = keys.len() - 1;
-        let mut state = $block.xor(&keys[0]);
-        for j in 1..end {
-            state = <$aes>::$whole(&state, &keys[j]);
-        }
-        <$aes>::$last(&state, &keys[end])
-    }};
+/// A block through all rounds by tables.
+fn ciphered_by_tables(keys: &[unprotected::Block], block: &unprotected::Block) -> unprotected::Block
+    requires { 1 ≤ length keys.now }
+{
+    let last = keys.len() - 1;
+    let mut state = block.xor(&keys[0]);
+    for j in 1..last {
+        state = unprotected::SoftAes::block_encrypt(&state, &keys[j]);
+    }
+    unprotected::SoftAes::block_encrypt_last(&state, &keys[last])
 }
 
-/// One key's cipher text by one path, and back.
-macro_rules! cipher_at_vector {
-    ($rt:ident, $block:ty, $aes:ty, $schedule:ident, $expand:ident, $invert:ident, $key:expr, $want:expr) => {{
-        let plain = <$block>::from_bytes(&PLAIN);
-        let keys = $schedule::$expand(&$key);
-        let cipher = through!(keys, plain, $aes, block_encrypt, block_encrypt_last);
-        assert_eq!($rt; cipher.to_bytes(), $want);
-        let back = $schedule::$invert(&keys);
-        let again = through!(back, cipher, $aes, block_decrypt, block_decrypt_last);
-        assert_eq!($rt; again, plain);
-    }};
-}
-
-/// The ciphers of one path at the standard's vectors.
-macro_rules! ciphers_at_vectors {
-    ($rt:ident, $block:ty, $aes:ty, $schedule:ident) => {{
-        cipher_at_vector!(
-            $rt, $block, $aes, $schedule, key_expansion_128, inverse_key_schedule_128, COUNTED, CIPHER_128
-        );
-        cipher_at_vector!(
-            $rt, $block, $aes, $schedule, key_expansion_192, inverse_key_schedule_192, KEY_192, CIPHER_192
-        );
-        cipher_at_vector!(
-            $rt, $block, $aes, $schedule, key_expansion_256, inverse_key_schedule_256, KEY_256, CIPHER_256
-        );
-        let zero_keys = &$schedule::key_expansion_128(&ZEROS)[..];
-        assert_eq!($rt; zero_keys[1].to_bytes(), ZERO_ROUND_KEY);
-    }};
+/// A block through all inverse rounds by tables.
+fn deciphered_by_tables(
+    keys: &[unprotected::Block],
+    block: &unprotected::Block,
+) -> unprotected::Block
+    requires { 1 ≤ length keys.now }
+{
+    let last = keys.len() - 1;
+    let mut state = block.xor(&keys[0]);
+    for j in 1..last {
+        state = unprotected::SoftAes::block_decrypt(&state, &keys[j]);
+    }
+    unprotected::SoftAes::block_decrypt_last(&state, &keys[last])
 }
 
 #[test]
 fn ciphers_by_gates_have_the_values_of_the_standard(rt: HostRuntime) {
-    ciphers_at_vectors!(rt, Block, SoftAes, key_schedule);
+    assert_eq!(rt; ciphered_128(&COUNTED, &PLAIN), CIPHER_128);
+    assert_eq!(rt; deciphered_128(&COUNTED, &CIPHER_128), PLAIN);
+    assert_eq!(rt; ciphered_192(&KEY_192, &PLAIN), CIPHER_192);
+    assert_eq!(rt; deciphered_192(&KEY_192, &CIPHER_192), PLAIN);
+    assert_eq!(rt; ciphered_256(&KEY_256, &PLAIN), CIPHER_256);
+    assert_eq!(rt; deciphered_256(&KEY_256, &CIPHER_256), PLAIN);
+    let zero_keys = &key_schedule::key_expansion_128(&ZEROS)[..];
+    assert_eq!(rt; zero_keys[1].to_bytes(), ZERO_ROUND_KEY);
 }
 
 #[test]
 fn ciphers_by_tables_have_the_values_of_the_standard(rt: HostRuntime) {
-    ciphers_at_vectors!(rt, unprotected::Block, unprotected::SoftAes, by_tables);
+    let plain = unprotected::Block::from_bytes(&PLAIN);
+
+    let keys = by_tables::key_expansion_128(&COUNTED);
+    let cipher = ciphered_by_tables(&keys, &plain);
+    assert_eq!(rt; cipher.to_bytes(), CIPHER_128);
+    assert_eq!(rt;
+        deciphered_by_tables(&by_tables::inverse_key_schedule_128(&keys), &cipher),
+        plain
+    );
+
+    let keys = by_tables::key_expansion_192(&KEY_192);
+    let cipher = ciphered_by_tables(&keys, &plain);
+    assert_eq!(rt; cipher.to_bytes(), CIPHER_192);
+    assert_eq!(rt;
+        deciphered_by_tables(&by_tables::inverse_key_schedule_192(&keys), &cipher),
+        plain
+    );
+
+    let keys = by_tables::key_expansion_256(&KEY_256);
+    let cipher = ciphered_by_tables(&keys, &plain);
+    assert_eq!(rt; cipher.to_bytes(), CIPHER_256);
+    assert_eq!(rt;
+        deciphered_by_tables(&by_tables::inverse_key_schedule_256(&keys), &cipher),
+        plain
+    );
+
+    let zero_keys = &by_tables::key_expansion_128(&ZEROS)[..];
+    assert_eq!(rt; zero_keys[1].to_bytes(), ZERO_ROUND_KEY);
 }
 
 /// The blocks of one path, and their operators.

@@ -126,6 +126,8 @@ pub fn header_bytes<A: Algorithm>(header: &Header, key: &A::Key) -> [u8; 96]
 /// of this layout (version 1, a chunk size of 16 to 1048576), they are what is read back.
 pub fn write_header<A: Algorithm>(header: &Header, key: &A::Key, out: &mut [u8; 96])
     ensures header { out.new ≡ sealed_header (cipher_of A.variant) (A.key_list key.now) header.now }
+    ensures says { InRange header.now → Says out.new header.now }
+    ensures tagged { Tagged (cipher_of A.variant) (A.key_list key.now) out.new }
 {
     *out = header_bytes::<A>(header, key);
 }

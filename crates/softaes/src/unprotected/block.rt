@@ -39,6 +39,7 @@ impl Model for Block {
 
 impl Block {
     /// The block of these bytes.
+    #[inline]
     pub fn from_bytes(input: &[u8; 16]) -> Block
         ensures { result ≡ input.now }
     {
@@ -69,6 +70,7 @@ impl Block {
     }
 
     /// The block of the first 16 bytes of `input`, which has at least as many.
+    #[inline]
     pub fn from_slice(input: &[u8]) -> Block
         requires { 16 ≤ length input.now }
         ensures { result ≡ take 16 input.now }
@@ -80,6 +82,7 @@ impl Block {
 
     /// The block whose bytes 0 to 7 are those of `b` and whose bytes 8 to 15 are those of `a`, each the
     /// lowest first.
+    #[inline]
     pub fn from64x2(a: u64, b: u64) -> Block
         ensures { result ≡ to_le_bytes w64 b ++ to_le_bytes w64 a }
     {
@@ -91,6 +94,7 @@ impl Block {
     }
 
     /// Its bytes.
+    #[inline]
     pub fn to_bytes(&self) -> [u8; 16]
         ensures { result ≡ self.now }
     {
@@ -104,6 +108,7 @@ impl Block {
     }
 
     /// The exclusive or, byte by byte.
+    #[inline]
     pub fn xor(&self, other: &Block) -> Block
         ensures { result ≡ xor_bytes self.now other.now }
     {
@@ -116,6 +121,7 @@ impl Block {
     }
 
     /// The and, byte by byte.
+    #[inline]
     pub fn and(&self, other: &Block) -> Block
         ensures { result ≡ and_bytes self.now other.now }
     {

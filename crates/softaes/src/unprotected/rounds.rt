@@ -18,6 +18,7 @@ pub struct SoftAes;
 
 impl SoftAes {
     /// The forward round: SubBytes, ShiftRows, MixColumns and AddRoundKey.
+    #[inline]
     pub fn block_encrypt(block: &Block, rk: &Block) -> Block
         ensures { result ≡ R block.now rk.now }
     {
@@ -31,6 +32,7 @@ impl SoftAes {
     }
 
     /// The last forward round, which has no MixColumns.
+    #[inline]
     pub fn block_encrypt_last(block: &Block, rk: &Block) -> Block
         ensures { result ≡ RL block.now rk.now }
     {
@@ -45,6 +47,7 @@ impl SoftAes {
 
     /// The inverse round of the equivalent inverse cipher (FIPS 197, section 5.3.5): InvShiftRows,
     /// InvSubBytes, InvMixColumns and AddRoundKey.
+    #[inline]
     pub fn block_decrypt(block: &Block, rk: &Block) -> Block
         ensures { result ≡ IR block.now rk.now }
     {
@@ -58,6 +61,7 @@ impl SoftAes {
     }
 
     /// The last inverse round, which has no InvMixColumns.
+    #[inline]
     pub fn block_decrypt_last(block: &Block, rk: &Block) -> Block
         ensures { result ≡ IRL block.now rk.now }
     {
@@ -72,6 +76,7 @@ impl SoftAes {
 }
 
 /// The substituted and mixed column of byte 0 of `w0` to byte 3 of `w3`.
+#[inline]
 fn column(w0: u32, w1: u32, w2: u32, w3: u32) -> u32
     ensures { (r : ℕ) → r < 4 → word_byte result r
         ≡ mixed r (four (S (word_byte w0 0)) (S (word_byte w1 1)) (S (word_byte w2 2)) (S (word_byte w3 3))) }
@@ -83,6 +88,7 @@ fn column(w0: u32, w1: u32, w2: u32, w3: u32) -> u32
 }
 
 /// The substituted column of byte 0 of `w0` to byte 3 of `w3`.
+#[inline]
 fn last_column(w0: u32, w1: u32, w2: u32, w3: u32) -> u32
     ensures { (r : ℕ) → r < 4 → word_byte result r
         ≡ four (S (word_byte w0 0)) (S (word_byte w1 1)) (S (word_byte w2 2)) (S (word_byte w3 3)) r }
@@ -96,6 +102,7 @@ fn last_column(w0: u32, w1: u32, w2: u32, w3: u32) -> u32
 }
 
 /// The column of byte 0 of `w0` to byte 3 of `w3` through the inverse S-box and InvMixColumns.
+#[inline]
 fn inv_column(w0: u32, w1: u32, w2: u32, w3: u32) -> u32
     ensures { (r : ℕ) → r < 4 → word_byte result r
         ≡ inv_mixed r (four (IS (word_byte w0 0)) (IS (word_byte w1 1)) (IS (word_byte w2 2)) (IS (word_byte w3 3))) }
@@ -107,6 +114,7 @@ fn inv_column(w0: u32, w1: u32, w2: u32, w3: u32) -> u32
 }
 
 /// The column of byte 0 of `w0` to byte 3 of `w3` through the inverse S-box.
+#[inline]
 fn last_inv_column(w0: u32, w1: u32, w2: u32, w3: u32) -> u32
     ensures { (r : ℕ) → r < 4 → word_byte result r
         ≡ four (IS (word_byte w0 0)) (IS (word_byte w1 1)) (IS (word_byte w2 2)) (IS (word_byte w3 3)) r }

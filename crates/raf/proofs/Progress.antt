@@ -1,0 +1,185 @@
+-- A session goes on by one command, and ends.
+use Rattle.std.proofs.Common.{◌≡◌, inl, inr, ℕ, ◌+◌, ◌-◌, ◌*◌, ◌<◌, ◌≤◌, min, max, Bool, true, false, List, [], ◌∷◌, ◌++◌, length, take, drop, Option, Some, None, refl, sym, ◌∙◌, ap, subst, arith, length-append, length-take, append_assoc}
+use Rattle.std.proofs.lemmas.Bool.{false≢true}
+use Rattle.std.proofs.lemmas.List.{take_all, take_at}
+use Rattle.std.proofs.Math.Nat.{mul-add}
+use Rattle.raf.specs.Source.{Takes, TakesAtMost}
+use Rattle.raf.specs.Cipher.{Cipher, IsLawful}
+use Rattle.raf.specs.File.{File, Opens, file_layout}
+use Rattle.raf.specs.Apply.{apply, replies_of, file_after, longest}
+use Rattle.raf.specs.Image.{traced, bytes_after, asked_by, asked_in, changes_by, changes_in, traffic_by, traffic_in}
+use Rattle.raf.specs.Outside.{Outside, Kept, Quiet, Caused, Moved}
+use Rattle.raf.specs.Session.{AllAuthentic, AllShaped, Course, Whole, Faulted, CutShort, Faultable, MayFail, Shaped, shaped_size, begun}
+use Rattle.raf.specs.Stepped.{Holds, Stepped, Done, with_size}
+use Rattle.raf.specs.Ended.{SoFar, Progress, Ran, Ended, shaped_end}
+use Rattle.raf.specs.Kinds.{is_fault}
+use Rattle.raf.specs.declared.format.header.Header.{Header}
+use Rattle.raf.specs.declared.command.Command.{Command}
+use Rattle.raf.specs.declared.command.Reply.{Reply}
+use Rattle.raf.specs.declared.command.Reply.TheVariants.{Refused}
+use Rattle.raf.specs.declared.errors.ErrorKind.{ErrorKind}
+use Rattle.raf.proofs.Opened.{opens_held}
+use Rattle.raf.proofs.Moves.{moved_same, moved_less, moved_then, quiet_same, quiet_then, caused_later, takes_none, takes_then}
+use Rattle.raf.proofs.Still.{moved_loose}
+use Rattle.raf.proofs.Runs.{replies-push, after-push, asked-push, changes-push, traffic-push, longest-push, longest_last, traced-extra, traced-push, authentic-push, shaped-push, shaped_end-push}
+
+pub progress_none : (C : Cipher) (key : List ℕ) (h : Header) (old : Outside) (rs : List Reply) → rs ≡ [] → Progress C key h h [] rs old old
+progress_none C key h old rs none = subst (λ (l : List Reply). Progress C key h h [] l old old) (sym none) (record {
+  told = λ F b told held. record {
+    played = refl;
+    nonces = [];
+    drawn = refl;
+    taken = takes_none old.left;
+    tells = told;
+    holds = held;
+    authentic = tt;
+    moved = moved_less old old 0 0 0 0 (file_layout F) 0 0 0 (moved_same old old refl) (omega arith) (omega arith) (omega arith) (omega arith);
+    strays = refl;
+  };
+  quiet = quiet_same old old refl;
+  shaped = tt;
+  sized = refl;
+  moved = moved_loose old old 0 0 0 0 (C.nonce_len * 0) (moved_same old old refl) (omega arith);
+})
+
+-- a nonce more
+asked_more : (n : ℕ) (rs : List Reply) (r : Reply) → n * length rs + n ≤ n * length (rs ++ r ∷ [])
+asked_more n rs r =
+    let one : n * 1 ≡ n = omega arith in
+    let is : n * length (rs ++ r ∷ []) ≡ n * length rs + n = ap (λ (k : ℕ). n * k) (length-append rs (r ∷ [])) ∙ mul-add n (length rs) 1 ∙ ap (λ (k : ℕ). n * length rs + k) one in
+    omega (arith, is)
+
+length-replies : (F : File) (commands : List Command) → length (replies_of F commands) ≡ length commands
+length-replies F [] = refl
+length-replies F (c ∷ commands) = omega (arith, length-replies (apply F c).1 commands)
+
+-- the bounds of one command more
+moved_more : (F : File) (xs : List Command) (c : Command) (old mid new : Outside)
+    → Moved old mid (longest F xs) (traffic_in F xs) (asked_in F xs) (changes_in F xs)
+    → Moved mid new (max (file_layout (file_after F xs)) (file_layout (apply (file_after F xs) c).1)) (traffic_by (file_after F xs) c) (asked_by (file_after F xs) c) (changes_by (file_after F xs) c)
+    → Moved old new (longest F (xs ++ c ∷ [])) (traffic_in F (xs ++ c ∷ [])) (asked_in F (xs ++ c ∷ [])) (changes_in F (xs ++ c ∷ []))
+moved_more F xs c old mid new m n =
+    moved_less old new _ _ _ _ (longest F (xs ++ c ∷ [])) (traffic_in F (xs ++ c ∷ [])) (asked_in F (xs ++ c ∷ [])) (changes_in F (xs ++ c ∷ []))
+    (moved_then old mid new (longest F xs) (traffic_in F xs) (asked_in F xs) (changes_in F xs) _ _ _ _ m n)
+    (omega (arith, longest-push F xs c, longest_last F xs)) (omega (arith, traffic-push F xs c)) (omega (arith, asked-push F xs c)) (omega (arith, changes-push F xs c))
+
+so_far_more : (C : Cipher) (key : List ℕ) (F : File) (b : List ℕ) (xs : List Command) (rs : List Reply) (h k k' : Header) (old mid new : Outside) (c : Command) (r : Reply)
+    → SoFar C key F b xs rs k old mid → Stepped C key k k' mid new c r → is_fault r ≡ false → SoFar C key F b (xs ++ c ∷ []) (rs ++ r ∷ []) k' old new
+so_far_more C key F b xs rs h k k' old mid new c r p s fine =
+    let G = file_after F xs in
+    let d = s.answered G (traced C key F xs p.nonces b) p.tells p.holds fine in
+    let bounded = s.bounded G (traced C key F xs p.nonces b) p.tells p.holds in
+    let bytes : traced C key F (xs ++ c ∷ []) (p.nonces ++ d.nonces) b ≡ bytes_after C key G c d.nonces (traced C key F xs p.nonces b) =
+    traced-push C key F xs c p.nonces d.nonces b p.drawn d.drawn in
+    record {
+      played = ap (λ (l : List Reply). l ++ r ∷ []) p.played ∙ ap (λ (x : Reply). replies_of F xs ++ x ∷ []) d.due ∙ sym (replies-push F xs c);
+      nonces = p.nonces ++ d.nonces;
+      drawn = length-append p.nonces d.nonces ∙ ap (λ (n : ℕ). n + length d.nonces) p.drawn ∙ ap (λ (n : ℕ). asked_in F xs + n) d.drawn ∙ sym (asked-push F xs c);
+      taken = takes_then old.left mid.left new.left p.nonces d.nonces p.taken d.taken;
+      tells = d.tells ∙ ap (λ (l : List ℕ). Some l) (sym bytes);
+      holds = subst (λ (l : List ℕ). Holds C key l k' (file_after F (xs ++ c ∷ []))) (sym bytes)
+          (subst (λ (X : File). Holds C key (bytes_after C key G c d.nonces (traced C key F xs p.nonces b)) k' X) (sym (after-push F xs c)) d.holds);
+      authentic = authentic-push C key F xs c p.nonces d.nonces b p.drawn p.authentic d.authentic;
+      moved = moved_more F xs c old mid new p.moved bounded.moved;
+      strays = bounded.strays ∙ p.strays;
+    }
+
+pub progress_more : (C : Cipher) (key : List ℕ) (h k k' : Header) (xs ys : List Command) (rs : List Reply) (old mid new : Outside) (c : Command) (r : Reply)
+    → Progress C key h k xs rs old mid → Stepped C key k k' mid new c r → is_fault r ≡ false → ys ≡ xs ++ c ∷ [] → Progress C key h k' ys (rs ++ r ∷ []) old new
+progress_more C key h k k' xs ys rs old mid new c r p s fine more =
+    let chunk_size : k.chunk_size ≡ h.chunk_size = ap (λ (x : Header). x.chunk_size) p.sized in
+    let size : k.file_size ≡ shaped_end h.file_size xs rs = ap (λ (x : Header). x.file_size) p.sized in
+    subst (λ (l : List Command). Progress C key h k' l (rs ++ r ∷ []) old new) (sym more) (record {
+      told = λ F b told held. so_far_more C key F b xs rs h k k' old mid new c r (p.told F b told held) s fine;
+      quiet = quiet_then old mid new p.quiet (s.quiet fine);
+      shaped = shaped-push h.chunk_size h.file_size xs rs c r p.shaped
+          (subst (λ (n : ℕ). Shaped n (shaped_end h.file_size xs rs) c r) chunk_size (subst (λ (n : ℕ). Shaped k.chunk_size n c r) size (s.shaped fine)));
+      sized = s.sized fine ∙ ap (λ (x : Header). with_size x (shaped_size x.file_size c r)) p.sized ∙ ap (with_size h) (sym (shaped_end-push h.chunk_size h.file_size xs rs c r p.shaped));
+      moved = moved_loose old new _ _ _ _ (C.nonce_len * length (rs ++ r ∷ [])) (moved_then old mid new _ _ _ _ _ _ _ _ p.moved s.moved) (asked_more C.nonce_len rs r);
+    })
+
+-- the commands that were begun, where all were and where a fault came
+begun_all : (commands : List Command) (F : File) (rs : List Reply) → rs ≡ replies_of F commands → begun commands rs ≡ commands
+begun_all commands F rs is = take_all (length rs) commands (omega (arith, ap length is, length-replies F commands))
+
+begun_cut : (xs : List Command) (c : Command) (rest : List Command) (rs : List Reply) (r : Reply) → length rs ≡ length xs → begun (xs ++ c ∷ rest) (rs ++ r ∷ []) ≡ xs ++ c ∷ []
+begun_cut xs c rest rs r len =
+    let n : length (rs ++ r ∷ []) ≡ length xs + 1 = omega (arith, length-append rs (r ∷ []), len) in
+    ap (λ (k : ℕ). take k (xs ++ c ∷ rest)) n ∙ ap (λ (l : List Command). take (length xs + 1) l) (sym (append_assoc xs (c ∷ []) rest))
+    ∙ take_at (xs ++ c ∷ []) rest (length xs + 1) (length-append xs (c ∷ []))
+
+pub ended_whole : (C : Cipher) (lawful : IsLawful C) (key : List ℕ) (h k : Header) (commands xs : List Command) (rs : List Reply) (old now : Outside)
+    → xs ≡ commands → Progress C key h k xs rs old now → Ended C key h commands old now rs
+ended_whole C lawful key h k commands xs rs old now all progress = go (subst (λ (l : List Command). Progress C key h k l rs old now) all progress)
+  where
+    go : Progress C key h k commands rs old now → Ended C key h commands old now rs
+    go p = record {
+      told = λ F b told held.
+          let t = p.told F b told held in
+          let same : begun commands rs ≡ commands = begun_all commands F rs t.played in
+          record {
+            run = inl (record {
+              nonces = t.nonces;
+              course = record { played = t.played; drawn = t.drawn; opens = opens_held C lawful key (traced C key F commands t.nonces b) k (file_after F commands) t.holds; authentic = t.authentic };
+              bytes = t.tells;
+              left = t.taken;
+              quiet = p.quiet;
+            });
+            moved = subst (λ (l : List Command). Moved old now (longest F l) (traffic_in F l) (asked_in F l) (changes_in F l)) (sym same) t.moved;
+            strays = t.strays;
+          };
+      numbers = inl (p.shaped, p.quiet);
+      moved = p.moved;
+    }
+
+pub ended_cut : (C : Cipher) (lawful : IsLawful C) (key : List ℕ) (h k k' : Header) (commands xs : List Command) (c : Command) (rest : List Command) (rs : List Reply) (r : Reply) (old mid new : Outside)
+    → commands ≡ xs ++ c ∷ rest → length rs ≡ length xs → Progress C key h k xs rs old mid → Stepped C key k k' mid new c r → is_fault r ≡ true → Ended C key h commands old new (rs ++ r ∷ [])
+ended_cut C lawful key h k k' commands xs c rest rs r old mid new split len p s fails =
+    let f = s.failed fails in
+    let last : rs ++ r ∷ [] ≡ rs ++ Refused f.kind ∷ [] = ap (λ (x : Reply). rs ++ x ∷ []) f.is in
+    let cause : Caused f.kind old new = caused_later f.kind old mid new p.quiet f.cause in
+    let chunk_size : k.chunk_size ≡ h.chunk_size = ap (λ (x : Header). x.chunk_size) p.sized in
+    record {
+      told = λ F b told held.
+          let t = p.told F b told held in
+          let G = file_after F xs in
+          let cut = s.cut f.kind f.is fails G (traced C key F xs t.nonces b) t.tells t.holds in
+          let bounded = s.bounded G (traced C key F xs t.nonces b) t.tells t.holds in
+          let same : begun commands (rs ++ r ∷ []) ≡ xs ++ c ∷ [] = ap (λ (l : List Command). begun l (rs ++ r ∷ [])) split ∙ begun_cut xs c rest rs r len in
+          record {
+            run = inr (record {
+              done = xs;
+              command = c;
+              rest = rest;
+              split = split;
+              answered = rs;
+              kind = f.kind;
+              last = last;
+              nonces = t.nonces;
+              course = record { played = t.played; drawn = t.drawn; opens = opens_held C lawful key (traced C key F xs t.nonces b) k (file_after F xs) t.holds; authentic = t.authentic };
+              cause = cause;
+              due = cut.due;
+              middle = mid.left;
+              taken = t.taken;
+              left = cut.left;
+              bytes = cut.bytes;
+              tells = cut.tells;
+              spares = cut.spares;
+            });
+            moved = subst (λ (l : List Command). Moved old new (longest F l) (traffic_in F l) (asked_in F l) (changes_in F l)) (sym same) (moved_more F xs c old mid new t.moved bounded.moved);
+            strays = bounded.strays ∙ t.strays;
+          };
+      numbers = inr (record {
+        done = xs;
+        command = c;
+        rest = rest;
+        split = split;
+        answered = rs;
+        kind = f.kind;
+        last = last;
+        shaped = p.shaped;
+        cause = cause;
+        may = subst (λ (n : ℕ). MayFail n c f.kind) chunk_size f.may;
+      });
+      moved = moved_loose old new _ _ _ _ (C.nonce_len * length (rs ++ r ∷ [])) (moved_then old mid new _ _ _ _ _ _ _ _ p.moved s.moved) (asked_more C.nonce_len rs r);
+    }
