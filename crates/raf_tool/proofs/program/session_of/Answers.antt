@@ -11,7 +11,7 @@ returns c =
     let s = c.args.script in
     let io = c.new-io.result in
     let rng = c.new-builder.result.rng in
-    let random : rng ≡ c.new-2.result = c.new-builder.ensures in
+    let random : rng ≡ c.new-2.result = c.new-builder.ensures.rng in
     let unused = c.new-io.ensures.fresh in
     let unasked = c.new-2.ensures.fresh in
     record {
