@@ -1,0 +1,49 @@
+//! The program `raf_tool`: a script of commands over an encrypted file, in, and its replies, out.
+#![tactic(auto)]
+
+mod answer;
+mod lines;
+mod memory;
+mod output;
+mod program;
+mod script;
+mod settings;
+mod standard;
+mod streams;
+#[cfg(test)]
+mod tests;
+mod values;
+mod whole;
+mod words;
+
+use program::{Words, run};
+use raf::MemIo;
+use standard::{ReadSource, WriteSink};
+use std::alloc::AllocError;
+use std::process::ExitCode;
+use std::{env, io};
+
+// The words after the program's name. Words that are no text are a form of none, so none of them are kept.
+fn words_of(rt: &HostRuntime) -> Result<Words, AllocError> {
+    let mut words = Vec::new(rt.alloc());
+    match env::args(rt) {
+        Ok(args) => {
+            for word in args.skip(1) {
+                words.push(word)?;
+            }
+            Ok(Words::new(words))
+        }
+        Err(error) if error.kind() == io::ErrorKind::OutOfMemory => Err(AllocError),
+        Err(_) => Ok(Words::new(words)),
+    }
+}
+
+fn main(rt: HostRuntime) -> ExitCode {
+    let Ok(words) = words_of(&rt) else {
+        return ExitCode::from(7);
+    };
+    let mut source = ReadSource::new(rt.reader());
+    let mut sink = WriteSink::new(io::writer(&rt));
+    let ran = run(rt.alloc(), &words, &mut source, &mut sink, None::<MemIo>);
+    ExitCode::from(ran.status)
+}

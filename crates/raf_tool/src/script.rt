@@ -1,0 +1,86 @@
+//! What a script says.
+ghost use Rattle.std.specs.Prelude.{◌≡◌, ◌∷◌, [], ◌++◌, OnOk, OnErr, List, ℕ};
+ghost use Rattle.raf.specs.declared.command.Command.{Command};
+ghost use Rattle.raf_tool.specs.declared.script.ScriptError.TheVariants.{OutOfMemory};
+
+use aegis_core::Variant;
+use raf::{Command, Data};
+use std::alloc::{AllocError, AllocFailed, Global};
+use std::marker::Model;
+
+/// Commands, which contracts see as a list.
+#[derive(Drop)]
+pub struct Commands {
+    items: Vec<Command>,
+}
+
+impl Model for Commands {
+    ghost Value = { List Command };
+
+    ghost view = { λ c. c.items.items };
+}
+
+impl Commands {
+    /// No command.
+    pub fn new(alloc: Global) -> Commands
+        ensures { result ≡ [] }
+    {
+        Commands {
+            items: Vec::new(alloc),
+        }
+    }
+
+    /// Adds a command at the end.
+    pub fn push(&mut self, command: Command) -> Result<(), AllocError>
+        ensures ok { OnOk result (self.new ≡ self.old ++ command ∷ []) }
+        ensures err { OnErr result (self.new ≡ self.old) }
+    {
+        self.items.push(command)?;
+        Ok(())
+    }
+
+    /// The commands in order.
+    pub fn as_slice(&self) -> &[Command]
+        ensures { result.now ≡ self.now }
+    {
+        &self.items
+    }
+}
+
+/// The content of a script.
+#[derive(Drop)]
+pub struct Script {
+    /// The algorithm that sealed the file.
+    pub algorithm: Variant,
+    /// The file's key, of the algorithm's length.
+    pub key: Data,
+    /// The bytes that the random source gives.
+    pub random: Data,
+    /// The bytes that the storage holds at first.
+    pub storage: Data,
+    pub commands: Commands,
+}
+
+/// Why a script could not be read.
+#[derive(Clone, Copy, Debug, PartialEq, Eq)]
+pub enum ScriptError {
+    /// The first wrong line, counted from 1.
+    Line(u64),
+    OutOfMemory,
+}
+
+impl From<AllocError> for ScriptError {
+    ghost from_gives = { λ _ e. e ≡ OutOfMemory };
+
+    fn from(_: AllocError) -> Self {
+        ScriptError::OutOfMemory
+    }
+}
+
+impl<T: Drop> From<AllocFailed<T>> for ScriptError {
+    ghost from_gives = { λ _ e. e ≡ OutOfMemory };
+
+    fn from(_: AllocFailed<T>) -> Self {
+        ScriptError::OutOfMemory
+    }
+}

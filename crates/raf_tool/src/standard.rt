@@ -1,0 +1,72 @@
+//! Any reader and any writer of std as a source and a sink, with a count of faults. They tell no bytes.
+ghost use Rattle.std.specs.Prelude.{◌≡◌, None, ℕ};
+
+use crate::streams::{Failed, Sink, Source};
+use std::io::{Read, Write};
+
+/// A reader of std as a source. What it reads is the host's affair; what is proved is the trait's contract.
+#[derive(Drop)]
+pub struct ReadSource<T> {
+    inner: T,
+    faults: u64,
+}
+
+impl<T: Read> ReadSource<T> {
+    /// The source of what this reader gives, with no fault so far.
+    pub fn new(inner: T) -> ReadSource<T>
+        ensures reader { result.inner ≡ inner }
+        ensures faults { result.faults ≡ 0 }
+    {
+        ReadSource { inner, faults: 0 }
+    }
+}
+
+impl<T: Read> Source for ReadSource<T> {
+    ghost left = { λ _. None };
+
+    ghost faults = { λ s. s.faults };
+
+    fn read(&mut self, buf: &mut [u8]) -> Result<usize, Failed> {
+        match self.inner.read(buf) {
+            Ok(count) => Ok(count),
+            Err(_) => {
+                self.faults = self.faults.saturating_add(1);
+                Err(Failed)
+            }
+        }
+    }
+}
+
+/// A writer of std as a sink. What becomes of the bytes is the host's affair; what is proved is the trait's contract.
+#[derive(Drop)]
+pub struct WriteSink<T> {
+    inner: T,
+    faults: u64,
+}
+
+impl<T: Write> WriteSink<T> {
+    /// The sink of what this writer takes, with no fault so far.
+    pub fn new(inner: T) -> WriteSink<T>
+        ensures writer { result.inner ≡ inner }
+        ensures faults { result.faults ≡ 0 }
+    {
+        WriteSink { inner, faults: 0 }
+    }
+}
+
+impl<T: Write> Sink for WriteSink<T> {
+    ghost written = { λ _. None };
+
+    ghost faults = { λ s. s.faults };
+
+    // A writer that takes nothing of a piece would be asked for ever: that is a fault.
+    fn write(&mut self, buf: &[u8]) -> Result<usize, Failed> {
+        match self.inner.write(buf) {
+            Ok(count) if count != 0 || buf.is_empty() => Ok(count),
+            _ => {
+                self.faults = self.faults.saturating_add(1);
+                Err(Failed)
+            }
+        }
+    }
+}

@@ -1,0 +1,331 @@
+//! Runs of the program: its texts, its statuses, and what a failing source or sink leaves.
+
+use crate::memory::{VecSink, VecSource};
+use crate::program::{Words, run};
+use crate::streams::{Failed, Source};
+use raf::MemIo;
+use raf::format::{Aegis128L, Header, write_header};
+use std::alloc::{AllocError, Global};
+use std::test::Fail;
+
+const KEY: [u8; 16] = [0, 1, 2, 3, 4, 5, 6, 7, 8, 9, 10, 11, 12, 13, 14, 15];
+
+/// The first four lines of each script here.
+const HEAD: &str =
+    "alg aegis128l\nkey 000102030405060708090a0b0c0d0e0f\nrandom 00000000000000000000000000000000\nmerkle none\n";
+
+/// The storage of an empty file of chunk size 16 and zero id under the key, by an independent program.
+const EMPTY: &str =
+    "5345414c5241463101010000100000000000000000000000000000000000000000000000000000000000000000000000000000000000000000000000000000009fe56d23cdb860f83f14c8cd69efa5e50b15a92481f0c7e752cf7815ce074f49";
+
+/// The storage after `hello` was written to it under a nonce of zeros, by the same program.
+const HELLO: &str =
+    "5345414c524146310101000010000000050000000000000000000000000000000000000000000000000000000000000000000000000000000000000000000000a5664ba3d35ac5ed4c863b24c615742176d82a4d5726b38cd2862e502dac78f500000000000000000000000000000000c7f46a6cec37f9e3ab8e3953847baedd37ffeb2289";
+
+fn words(alloc: Global, words: &[&str]) -> Result<Words, AllocError> {
+    let mut list = Vec::new(alloc);
+    for word in words {
+        list.push(String::from_str(alloc, word)?)?;
+    }
+    Ok(Words::new(list))
+}
+
+// The pieces of a text, one after the other.
+fn joined(alloc: Global, pieces: &[&str]) -> Result<Vec<u8>, AllocError> {
+    let mut text = Vec::new(alloc);
+    for piece in pieces {
+        text.extend_from_slice(piece.as_bytes())?;
+    }
+    Ok(text)
+}
+
+#[test]
+fn scripts_are_answered(rt: HostRuntime) -> Result<(), Fail> {
+    let alloc = rt.alloc();
+    let mut header = [0; 96];
+    let fields = Header {
+        version: 1,
+        algorithm: 1,
+        chunk_size: 16,
+        file_size: 0,
+        id: [0; 32],
+    };
+    write_header::<Aegis128L>(&fields, &KEY, &mut header);
+    assert_eq!(rt; hex::encode(alloc, header.as_slice())?.as_str(), EMPTY);
+    let changed = &EMPTY[..190];
+    for (pieces, want, status) in [
+        (
+            [
+                HEAD,
+                "storage ",
+                EMPTY,
+                "\nsize\nwrite 0 68656c6c6f\nread 0 16\nsize\n",
+            ],
+            [
+                "size 0\nwrote 5\nbytes 68656c6c6f\nsize 5\nstorage ",
+                HELLO,
+                "\n",
+            ],
+            0,
+        ),
+        // upper case hex is read
+        (
+            [HEAD, "storage ", EMPTY, "\nwrite 0 68656C6C6F\n"],
+            ["wrote 5\nstorage ", HELLO, "\n"],
+            0,
+        ),
+        // a write past the chunk is refused, one of no bytes isn't
+        (
+            [
+                HEAD,
+                "storage ",
+                EMPTY,
+                "\nwrite 12 0102030405\nwrite 18446744073709551615 -\nsize\n",
+            ],
+            ["refused unbuilt\nwrote 0\nsize 0\nstorage ", EMPTY, "\n"],
+            0,
+        ),
+        // the last byte of the header's tag is changed
+        (
+            [HEAD, "storage ", changed, "48\nsize\n"],
+            ["error authentication\nstorage ", changed, "48\n"],
+            3,
+        ),
+        (
+            [HEAD, "storage -\n", "size\n", ""],
+            ["error unbuilt\n", "storage -", "\n"],
+            3,
+        ),
+        // the random source gives no second nonce
+        (
+            [
+                HEAD,
+                "storage ",
+                EMPTY,
+                "\nwrite 0 68656c6c6f\nwrite 0 aa\nsize\n",
+            ],
+            ["wrote 5\nfault rng\nstorage ", HELLO, "\n"],
+            4,
+        ),
+    ] {
+        let text = joined(alloc, &pieces)?;
+        let expected = joined(alloc, &want)?;
+        let mut source = VecSource::new(text, Vec::new(alloc));
+        let mut sink = VecSink::new(alloc, Vec::new(alloc));
+        let ran = run(
+            alloc,
+            &words(alloc, &["script"])?,
+            &mut source,
+            &mut sink,
+            None::<MemIo>,
+        );
+        assert_eq!(rt; sink.written(), expected.as_slice(), "after {}", pieces[3]);
+        assert_eq!(rt; ran.status, status, "after {}", pieces[3]);
+    }
+    Ok(())
+}
+
+#[test]
+fn wrong_scripts_are_refused(rt: HostRuntime) -> Result<(), Fail> {
+    let alloc = rt.alloc();
+    let key = "key 000102030405060708090a0b0c0d0e0f\n";
+    for pieces in [
+        ["", "", ""],
+        // no LF at the end of line 1, 5 or 6
+        ["alg aegis128l", "", ""],
+        [HEAD, "storage -", ""],
+        [HEAD, "storage -\n", "size"],
+        // a wrong or missing setting
+        ["alg aegis128\n", key, "random -\nmerkle none\nstorage -\n"],
+        [
+            "alg  aegis128l\n",
+            key,
+            "random -\nmerkle none\nstorage -\n",
+        ],
+        [
+            "alg aegis128l\n",
+            "key 0001\n",
+            "random -\nmerkle none\nstorage -\n",
+        ],
+        ["alg aegis128l\n", key, "seed -\nmerkle none\nstorage -\n"],
+        [
+            "alg aegis128l\n",
+            key,
+            "random -\nmerkle sha256 4\nstorage -\n",
+        ],
+        ["alg aegis128l\n", key, "random -\nmerkle none\ncreate 16\n"],
+        [HEAD, "storage 010\n", ""],
+        [HEAD, "storage 0g\n", ""],
+        // a wrong command
+        [HEAD, "storage -\n", "\n"],
+        [HEAD, "storage -\n", " size\n"],
+        [HEAD, "storage -\n", "size \n"],
+        [HEAD, "storage -\n", "size 1\n"],
+        [HEAD, "storage -\n", "read 0\n"],
+        [HEAD, "storage -\n", "read 007 1\n"],
+        [HEAD, "storage -\n", "read +7 1\n"],
+        [HEAD, "storage -\n", "read 0 18446744073709551616\n"],
+        [HEAD, "storage -\n", "read 0 1 2\n"],
+        [HEAD, "storage -\n", "write 0 \n"],
+        [HEAD, "storage -\n", "sync\n"],
+        [HEAD, "storage -\n", "size\nsync\nsize\n"],
+    ] {
+        let mut source = VecSource::new(joined(alloc, &pieces)?, Vec::new(alloc));
+        let mut sink = VecSink::new(alloc, Vec::new(alloc));
+        let ran = run(
+            alloc,
+            &words(alloc, &["script"])?,
+            &mut source,
+            &mut sink,
+            None::<MemIo>,
+        );
+        assert_eq!(rt;
+            sink.written(),
+            b"script unbuilt\n".as_slice(),
+            "after {}{}",
+            pieces[1],
+            pieces[2]
+        );
+        assert_eq!(rt; ran.status, 2, "after {}{}", pieces[1], pieces[2]);
+    }
+    Ok(())
+}
+
+#[test]
+fn words_that_are_no_form_give_the_usage(rt: HostRuntime) -> Result<(), Fail> {
+    let alloc = rt.alloc();
+    for list in [
+        [].as_slice(),
+        ["scripts"].as_slice(),
+        ["script", "x"].as_slice(),
+    ] {
+        let mut source = VecSource::new(Vec::new(alloc), vec![in alloc; 0]?);
+        let mut sink = VecSink::new(alloc, Vec::new(alloc));
+        let disk = Some(MemIo::new(alloc, vec![in alloc; 7]?, Vec::new(alloc)));
+        let ran = run(alloc, &words(alloc, list)?, &mut source, &mut sink, disk);
+        assert_eq!(rt; sink.written(), b"usage: raf_tool script\n".as_slice());
+        assert_eq!(rt; ran.status, 1);
+        assert_eq!(rt; ran.disk.map(|disk| disk.into_bytes().len()), Some(1));
+    }
+    Ok(())
+}
+
+// The stored run's script.
+fn greeting(alloc: Global) -> Result<Vec<u8>, AllocError> {
+    joined(
+        alloc,
+        &[
+            HEAD,
+            "storage ",
+            EMPTY,
+            "\nsize\nwrite 0 68656c6c6f\nread 0 16\nsize\n",
+        ],
+    )
+}
+
+#[test]
+fn a_sink_that_fails_has_a_front_of_the_text(rt: HostRuntime) -> Result<(), Fail> {
+    let alloc = rt.alloc();
+    let want = joined(
+        alloc,
+        &[
+            "size 0\nwrote 5\nbytes 68656c6c6f\nsize 5\nstorage ",
+            HELLO,
+            "\n",
+        ],
+    )?;
+    // Two lines with bytes take three calls each, the other three one each.
+    for number in 0..10 {
+        let mut source = VecSource::new(greeting(alloc)?, Vec::new(alloc));
+        let mut sink = VecSink::new(alloc, vec![in alloc; number]?);
+        let ran = run(
+            alloc,
+            &words(alloc, &["script"])?,
+            &mut source,
+            &mut sink,
+            None::<MemIo>,
+        );
+        let written = sink.written();
+        assert_eq!(rt;
+            ran.status,
+            if number < 9 { 6 } else { 0 },
+            "at call {number}"
+        );
+        assert!(rt; want.starts_with(written), "at call {number}");
+        assert_eq!(rt;
+            written.len() == want.len(),
+            number == 9,
+            "at call {number}"
+        );
+    }
+    Ok(())
+}
+
+/// A source that gives one byte a call.
+#[derive(Drop)]
+struct OneByte {
+    inner: VecSource,
+}
+
+impl Source for OneByte {
+    ghost use Rattle.std.specs.Prelude.{Some};
+
+    ghost left = { λ s. Some s.inner.bytes };
+
+    ghost faults = { λ s. s.inner.faults };
+
+    fn read(&mut self, buf: &mut [u8]) -> Result<usize, Failed> {
+        let room = buf.len().min(1);
+        self.inner.read(&mut buf[..room])
+    }
+}
+
+#[test]
+fn pieces_of_one_byte_make_no_difference(rt: HostRuntime) -> Result<(), Fail> {
+    let alloc = rt.alloc();
+    let want = joined(
+        alloc,
+        &[
+            "size 0\nwrote 5\nbytes 68656c6c6f\nsize 5\nstorage ",
+            HELLO,
+            "\n",
+        ],
+    )?;
+    let mut source = OneByte {
+        inner: VecSource::new(greeting(alloc)?, Vec::new(alloc)),
+    };
+    let mut sink = VecSink::new(alloc, Vec::new(alloc));
+    let ran = run(
+        alloc,
+        &words(alloc, &["script"])?,
+        &mut source,
+        &mut sink,
+        None::<MemIo>,
+    );
+    assert_eq!(rt; sink.written(), want.as_slice());
+    assert_eq!(rt; ran.status, 0);
+    Ok(())
+}
+
+#[test]
+fn a_source_that_fails_gives_nothing(rt: HostRuntime) -> Result<(), Fail> {
+    let alloc = rt.alloc();
+    let length = greeting(alloc)?.len() as u64;
+    // The first call, the second, and the last, which finds the end.
+    for number in [0, 1, length] {
+        let mut source = OneByte {
+            inner: VecSource::new(greeting(alloc)?, vec![in alloc; number]?),
+        };
+        let mut sink = VecSink::new(alloc, Vec::new(alloc));
+        let ran = run(
+            alloc,
+            &words(alloc, &["script"])?,
+            &mut source,
+            &mut sink,
+            None::<MemIo>,
+        );
+        assert_eq!(rt; ran.status, 5, "at call {number}");
+        assert_eq!(rt; sink.written().len(), 0, "at call {number}");
+    }
+    Ok(())
+}
