@@ -128,49 +128,37 @@ fn scripts_are_answered(rt: HostRuntime) -> Result<(), Fail> {
 #[test]
 fn wrong_scripts_are_refused(rt: HostRuntime) -> Result<(), Fail> {
     let alloc = rt.alloc();
-    let key = "key 000102030405060708090a0b0c0d0e0f\n";
-    for pieces in [
-        ["", "", ""],
+    let settings = "key 000102030405060708090a0b0c0d0e0f\nrandom -\nmerkle none\nstorage -\n";
+    for (front, rest) in [
+        ("", ""),
         // no LF at the end of line 1, 5 or 6
-        ["alg aegis128l", "", ""],
-        [HEAD, "storage -", ""],
-        [HEAD, "storage -\n", "size"],
+        ("alg aegis128l", ""),
+        (HEAD, "storage -"),
+        (HEAD, "storage -\nsize"),
         // a wrong or missing setting
-        ["alg aegis128\n", key, "random -\nmerkle none\nstorage -\n"],
-        [
-            "alg  aegis128l\n",
-            key,
+        ("alg aegis128\n", settings),
+        ("alg  aegis128l\n", settings),
+        (
+            "alg aegis128l\nkey 0001\n",
             "random -\nmerkle none\nstorage -\n",
-        ],
-        [
-            "alg aegis128l\n",
-            "key 0001\n",
-            "random -\nmerkle none\nstorage -\n",
-        ],
-        ["alg aegis128l\n", key, "seed -\nmerkle none\nstorage -\n"],
-        [
-            "alg aegis128l\n",
-            key,
-            "random -\nmerkle sha256 4\nstorage -\n",
-        ],
-        ["alg aegis128l\n", key, "random -\nmerkle none\ncreate 16\n"],
-        [HEAD, "storage 010\n", ""],
-        [HEAD, "storage 0g\n", ""],
+        ),
+        (HEAD, "create 16\n"),
+        (HEAD, "storage 010\n"),
+        (HEAD, "storage 0g\n"),
         // a wrong command
-        [HEAD, "storage -\n", "\n"],
-        [HEAD, "storage -\n", " size\n"],
-        [HEAD, "storage -\n", "size \n"],
-        [HEAD, "storage -\n", "size 1\n"],
-        [HEAD, "storage -\n", "read 0\n"],
-        [HEAD, "storage -\n", "read 007 1\n"],
-        [HEAD, "storage -\n", "read +7 1\n"],
-        [HEAD, "storage -\n", "read 0 18446744073709551616\n"],
-        [HEAD, "storage -\n", "read 0 1 2\n"],
-        [HEAD, "storage -\n", "write 0 \n"],
-        [HEAD, "storage -\n", "sync\n"],
-        [HEAD, "storage -\n", "size\nsync\nsize\n"],
+        (HEAD, "storage -\n\n"),
+        (HEAD, "storage -\n size\n"),
+        (HEAD, "storage -\nsize \n"),
+        (HEAD, "storage -\nsize 1\n"),
+        (HEAD, "storage -\nread 0\n"),
+        (HEAD, "storage -\nread 007 1\n"),
+        (HEAD, "storage -\nread +7 1\n"),
+        (HEAD, "storage -\nread 0 18446744073709551616\n"),
+        (HEAD, "storage -\nread 0 1 2\n"),
+        (HEAD, "storage -\nwrite 0 \n"),
+        (HEAD, "storage -\nsize\nsync\nsize\n"),
     ] {
-        let mut source = VecSource::new(joined(alloc, &pieces)?, Vec::new(alloc));
+        let mut source = VecSource::new(joined(alloc, &[front, rest])?, Vec::new(alloc));
         let mut sink = VecSink::new(alloc, Vec::new(alloc));
         let ran = run(
             alloc,
@@ -182,31 +170,32 @@ fn wrong_scripts_are_refused(rt: HostRuntime) -> Result<(), Fail> {
         assert_eq!(rt;
             sink.written(),
             b"script unbuilt\n".as_slice(),
-            "after {}{}",
-            pieces[1],
-            pieces[2]
+            "after {rest}"
         );
-        assert_eq!(rt; ran.status, 2, "after {}{}", pieces[1], pieces[2]);
+        assert_eq!(rt; ran.status, 2, "after {rest}");
     }
     Ok(())
+}
+
+// Whether the program answers these words by its usage, and hands the disk back as it came.
+fn gives_usage(alloc: Global, list: &[&str]) -> Result<bool, AllocError> {
+    let mut source = VecSource::new(Vec::new(alloc), vec![in alloc; 0]?);
+    let mut sink = VecSink::new(alloc, Vec::new(alloc));
+    let disk = Some(MemIo::new(alloc, vec![in alloc; 7]?, Vec::new(alloc)));
+    let ran = run(alloc, &words(alloc, list)?, &mut source, &mut sink, disk);
+    let told = ran.status == 1 && sink.written() == b"usage: raf_tool script\n".as_slice();
+    match &ran.disk {
+        Some(disk) => Ok(told && disk.bytes() == [7].as_slice()),
+        None => Ok(false),
+    }
 }
 
 #[test]
 fn words_that_are_no_form_give_the_usage(rt: HostRuntime) -> Result<(), Fail> {
     let alloc = rt.alloc();
-    for list in [
-        [].as_slice(),
-        ["scripts"].as_slice(),
-        ["script", "x"].as_slice(),
-    ] {
-        let mut source = VecSource::new(Vec::new(alloc), vec![in alloc; 0]?);
-        let mut sink = VecSink::new(alloc, Vec::new(alloc));
-        let disk = Some(MemIo::new(alloc, vec![in alloc; 7]?, Vec::new(alloc)));
-        let ran = run(alloc, &words(alloc, list)?, &mut source, &mut sink, disk);
-        assert_eq!(rt; sink.written(), b"usage: raf_tool script\n".as_slice());
-        assert_eq!(rt; ran.status, 1);
-        assert_eq!(rt; ran.disk.map(|disk| disk.into_bytes().len()), Some(1));
-    }
+    assert!(rt; gives_usage(alloc, &[])?);
+    assert!(rt; gives_usage(alloc, &["scripts"])?);
+    assert!(rt; gives_usage(alloc, &["script", "x"])?);
     Ok(())
 }
 
