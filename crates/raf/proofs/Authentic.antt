@@ -1,8 +1,8 @@
 -- What a read answers is authentic.
-use Rattle.std.proofs.Common.{◌≡◌, ℕ, ◌+◌, ◌-◌, ◌*◌, ◌<◌, ◌≤◌, min, List, [], ◌++◌, length, take, drop, get_or, Option, Some, refl, sym, ◌∙◌, ap, subst, arith, take-append-drop, length-take, length-drop}
+use Rattle.std.proofs.Common.{◌≡◌, ℕ, ◌+◌, ◌-◌, ◌*◌, ◌≤◌, min, List, ◌++◌, length, take, drop, get_or, Some, sym, ◌∙◌, ap, subst, arith, take-append-drop, length-take}
 use Rattle.std.proofs.lemmas.List.{get_or-take, get_or-drop}
 use Rattle.raf.specs.Cipher.{Cipher, IsLawful}
-use Rattle.raf.specs.File.{File, beside, sealed, IsSealedFor, record_at, chunk_len}
+use Rattle.raf.specs.File.{File, beside, IsSealedFor, record_at, chunk_len}
 use Rattle.raf.specs.Session.{Authentic}
 use Rattle.raf.specs.Stepped.{Holds, unsealed}
 use Rattle.raf.specs.declared.format.header.Header.{Header}

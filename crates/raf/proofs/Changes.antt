@@ -1,32 +1,24 @@
 -- A write into the one chunk of a file.
-use Rattle.std.proofs.Common.{◌≡◌, inl, inr, ℕ, zero, suc, ◌+◌, ◌-◌, ◌*◌, ◌<◌, ◌≤◌, min, max, Bool, true, false, cond, List, [], ◌∷◌, ◌++◌, length, take, drop, Option, Some, None, refl, sym, ◌∙◌, ap, subst, arith}
-use Rattle.std.specs.Prelude.{nat_eq, nat_lt, unwrap_or}
-use Rattle.std.proofs.lemmas.Bool.{false≢true}
+use Rattle.std.proofs.Common.{◌≡◌, inl, inr, ℕ, ◌+◌, ◌<◌, ◌≤◌, max, Bool, true, false, cond, List, [], ◌∷◌, ◌++◌, length, take, refl, sym, ◌∙◌, ap, arith}
+use Rattle.std.specs.Prelude.{nat_eq, nat_lt}
 use Rattle.std.proofs.lemmas.List.{take_all, append-nil}
-use Rattle.raf.specs.Source.{Takes, TakesAtMost}
 use Rattle.raf.specs.Cipher.{Cipher, IsLawful}
 use Rattle.raf.specs.Header.{sealed_header}
 use Rattle.raf.specs.File.{File, chunk_count, file_layout, sealed, record_at}
-use Rattle.raf.specs.Concern.{size_after, touched, needed, sum_where}
+use Rattle.raf.specs.Concern.{size_after, touched, sum_where}
 use Rattle.raf.specs.Apply.{apply}
-use Rattle.raf.specs.Image.{image, header_of, is_change, bytes_after, asked_by, changes_by, traffic_by, record_len}
-use Rattle.raf.specs.Outside.{Outside, Quiet, Caused, Moved}
-use Rattle.raf.specs.Loaded.{Spared}
-use Rattle.raf.specs.Session.{Spares, Faultable, Concerned, Shaped, shaped_size, MayFail, is_barred}
-use Rattle.raf.specs.Stepped.{Holds, Stepped, Cut, with_size, message, stored, laid}
-use Rattle.raf.specs.Kinds.{is_fault, is_refused}
+use Rattle.raf.specs.Image.{image, header_of, is_change, bytes_after, asked_by, changes_by, record_len}
+use Rattle.raf.specs.Session.{Shaped, shaped_size, MayFail, is_barred}
+use Rattle.raf.specs.Stepped.{Holds, with_size, message, stored, laid}
+use Rattle.raf.specs.Kinds.{is_refused}
 use Rattle.raf.specs.declared.format.header.Header.{Header}
-use Rattle.raf.specs.declared.command.Command.{Command}
 use Rattle.raf.specs.declared.command.Command.TheVariants.{Write}
 use Rattle.raf.specs.declared.command.Reply.{Reply}
 use Rattle.raf.specs.declared.command.Reply.TheVariants.{Wrote, Refused}
 use Rattle.raf.specs.declared.errors.ErrorKind.{ErrorKind}
-use Rattle.raf.specs.declared.errors.ErrorKind.TheVariants.{Io, InvalidArgument, AuthenticationFailed, AlreadyExists, NotFound, Overflow, MerkleNotEnabled, CorruptedChunk, Rng, Hash, Broken, OutOfMemory, Unbuilt}
+use Rattle.raf.specs.declared.errors.ErrorKind.TheVariants.{Io, AuthenticationFailed, Rng, Unbuilt}
 use Rattle.raf.proofs.Headers.{layout_one}
-use Rattle.raf.proofs.Laid.{holds_stored}
-use Rattle.raf.proofs.Moves.{moved_less}
 use Rattle.raf.proofs.Sums.{sum_one, record_len_one}
-use Rattle.raf.proofs.Still.{moved_loose}
 use Rattle.raf.proofs.Wrote.{size_after_is, change_is, write_touches, write_count, write_free}
 
 -- by numbers alone

@@ -1,15 +1,14 @@
 -- An AEGIS cipher as the algorithm of a file.
-use Rattle.std.proofs.Common.{◌≡◌, inl, inr, ℕ, ◌+◌, ◌-◌, ◌≤◌, Bool, true, false, List, ◌++◌, length, take, drop, Option, Some, None, refl, sym, ◌∙◌, ap, subst, arith, length-append, take-append-drop}
-use Rattle.std.specs.Bool.{OnTrue, OnFalse}
+use Rattle.std.proofs.Common.{◌≡◌, inl, inr, ℕ, ◌-◌, ◌≤◌, List, ◌++◌, length, take, drop, refl, sym, ◌∙◌, ap, subst, arith, length-append, take-append-drop}
 use Rattle.std.specs.Prelude.{codes, ◌⊎◌}
 use Rattle.std.proofs.lemmas.List.{take_at, drop_at}
-use Rattle.aegis_core.specs.Sealing.{seal, unsealed, Unseals, mac, key_len, nonce_len}
-use Rattle.aegis_core.specs.Keys.{kdf, mac_variant, zero_nonce, header_mac}
+use Rattle.aegis_core.specs.Sealing.{seal, unsealed, mac, key_len, nonce_len}
+use Rattle.aegis_core.specs.Keys.{kdf, mac_variant, zero_nonce}
 use Rattle.aegis_core.specs.Laws.{IsSealing}
 use Rattle.aegis_core.specs.declared.variant.Variant.{Variant}
 use Rattle.aegis_core.specs.declared.variant.Variant.TheVariants.{Aegis128L, Aegis128X2, Aegis128X4, Aegis256, Aegis256X2, Aegis256X4}
 use Rattle.aegis_core.proofs.Laws.{is_sealing}
-use Rattle.raf.specs.Cipher.{Cipher, IsLawful, cipher_of, id_of}
+use Rattle.raf.specs.Cipher.{IsLawful, cipher_of, id_of}
 
 pub key_len_cases : (v : Variant) → (key_len v ≡ 16) ⊎ (key_len v ≡ 32)
 key_len_cases Aegis128L = inl refl

@@ -1,5 +1,5 @@
 -- Errors that are handed on.
-use Rattle.std.proofs.Common.{◌≡◌, ℕ, List, Result, Ok, Err, sym, subst}
+use Rattle.std.proofs.Common.{◌≡◌, Result, Ok, Err, sym, subst}
 use Rattle.std.specs.Result.{IfErr, IsErrAnd}
 use Rattle.raf.specs.Outside.{Outside, Caused}
 use Rattle.raf.specs.Loaded.{Loaded}

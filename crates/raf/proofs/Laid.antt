@@ -1,6 +1,6 @@
 -- The bytes of a storage after a record and a header were written, and the file that they are.
-use Rattle.std.proofs.Common.{◌≡◌, ◌≢◌, inl, inr, ℕ, ◌+◌, ◌-◌, ◌*◌, ◌^◌, ◌<◌, ◌≤◌, max, Bool, true, false, List, [], ◌∷◌, ◌++◌, length, take, drop, replicate, Option, Some, None, refl, sym, ◌∙◌, ap, subst, arith, length-append, length-take, length-drop, take-append-drop, append_assoc}
-use Rattle.std.proofs.lemmas.List.{take-take, drop-take, take_at, drop_at, append-nil, take_all, drop_all, length-replicate}
+use Rattle.std.proofs.Common.{◌≡◌, ◌≢◌, inl, inr, ℕ, ◌+◌, ◌-◌, ◌<◌, ◌≤◌, max, List, [], ◌∷◌, ◌++◌, length, take, drop, replicate, Option, Some, refl, sym, ◌∙◌, ap, arith, length-append, length-take, length-drop, take-append-drop, append_assoc}
+use Rattle.std.proofs.lemmas.List.{take-take, drop-take, take_at, drop_at, append-nil, take_all, drop_all}
 use Rattle.std.proofs.lemmas.Bool.{cases_lt, cases_eq}
 use Rattle.raf.specs.Storage.{resized, spliced}
 use Rattle.raf.specs.Cipher.{Cipher, IsLawful}

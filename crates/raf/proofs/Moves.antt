@@ -1,5 +1,5 @@
 -- How storage and random source move over several calls.
-use Rattle.std.proofs.Common.{◌≡◌, ◌≢◌, inl, inr, Bool, true, false, cond, take, length-take, ℕ, ◌+◌, ◌≤◌, max, min, List, [], ◌++◌, length, Option, Some, None, refl, sym, ◌∙◌, subst, ap, arith, append_assoc}
+use Rattle.std.proofs.Common.{◌≡◌, ◌≢◌, inl, inr, Bool, true, false, cond, take, length-take, ℕ, ◌+◌, ◌≤◌, max, List, [], ◌++◌, Option, Some, None, refl, sym, ◌∙◌, subst, ap, arith, append_assoc}
 use Rattle.std.specs.Prelude.{nat_eq}
 use Rattle.std.proofs.lemmas.Bool.{cases_eq}
 use Rattle.std.proofs.lemmas.Bool.Decides.{nat_tests}

@@ -1,8 +1,8 @@
 -- An open file is what its storage opens to.
-use Rattle.std.proofs.Common.{◌≡◌, ℕ, zero, suc, ◌+◌, ◌-◌, ◌≤◌, min, List, [], ◌∷◌, ◌++◌, length, take, drop, Option, Some, None, refl, sym, ◌∙◌, ap, subst, arith, length-append, length-take, length-drop, take-append-drop}
+use Rattle.std.proofs.Common.{◌≡◌, ℕ, zero, suc, ◌+◌, List, [], ◌∷◌, length, take, drop, Option, Some, None, refl, sym, ◌∙◌, ap, subst, arith, length-append, length-take}
 use Rattle.std.proofs.lemmas.List.{drop_at}
 use Rattle.raf.specs.Cipher.{Cipher, IsLawful}
-use Rattle.raf.specs.File.{File, Opens, StandsFor, StandFrom, IsSealedFor, beside, sealed, record_at, chunk_count}
+use Rattle.raf.specs.File.{File, Opens, StandsFor, StandFrom, IsSealedFor, beside, record_at, chunk_count}
 use Rattle.raf.specs.Stepped.{Holds, file_of, chunks_from, unsealed}
 use Rattle.raf.specs.declared.format.header.Header.{Header}
 use Rattle.raf.proofs.Authentic.{sealed_for}

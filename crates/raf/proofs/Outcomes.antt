@@ -1,14 +1,13 @@
 -- What a session answers, from its opening and its run.
-use Rattle.std.proofs.Common.{◌≡◌, inl, inr, ℕ, ◌+◌, ◌-◌, ◌*◌, ◌^◌, ◌<◌, ◌≤◌, min, max, Bool, true, false, List, [], ◌∷◌, ◌++◌, length, take, Option, Some, None, Result, Ok, Err, refl, sym, ◌∙◌, ap, subst, arith}
+use Rattle.std.proofs.Common.{◌≡◌, inl, inr, ℕ, ◌^◌, ◌<◌, ◌≤◌, max, List, [], ◌∷◌, length, Option, Some, Result, Ok, Err, refl, sym, ◌∙◌, subst, arith}
 use Rattle.std.specs.Result.{IsErrAnd}
 use Rattle.std.specs.Prelude.{◌⊎◌}
-use Rattle.raf.specs.Source.{Takes, TakesAtMost}
+use Rattle.raf.specs.Source.{Takes}
 use Rattle.raf.specs.Cipher.{Cipher, IsLawful}
-use Rattle.raf.specs.File.{File, IsFile, Opens, file_layout}
-use Rattle.raf.specs.Apply.{apply, longest}
-use Rattle.raf.specs.Image.{asked_in, changes_in, traffic_in}
-use Rattle.raf.specs.Outside.{Outside, Kept, Quiet, Caused, Moved}
-use Rattle.raf.specs.Session.{WhyNotOpened, WhyRefused, OpeningFault, Refusal, Whole, Faulted, Answered, CutShort, AllShaped, ByNumbers, Meets, begun, read_total}
+use Rattle.raf.specs.File.{File, IsFile, file_layout}
+use Rattle.raf.specs.Apply.{longest}
+use Rattle.raf.specs.Outside.{Outside, Kept, Quiet, Moved}
+use Rattle.raf.specs.Session.{WhyNotOpened, WhyRefused, OpeningFault, Refusal, Whole, Faulted, CutShort, AllShaped, Meets, begun, read_total}
 use Rattle.raf.specs.Stepped.{Holds, file_of}
 use Rattle.raf.specs.Ended.{Ended, Ran}
 use Rattle.raf.specs.Kinds.{kind_of}

@@ -1,13 +1,11 @@
 -- The commands that read and write nothing.
-use Rattle.std.proofs.Common.{◌≡◌, inl, inr, ℕ, Bool, true, false, cond, List, Option, refl, sym, ◌∙◌, ap, arith}
+use Rattle.std.proofs.Common.{inl, inr, ℕ, Bool, cond, List, refl, ◌∙◌, ap, arith}
 use Rattle.raf.specs.Cipher.{Cipher}
 use Rattle.raf.specs.File.{File}
-use Rattle.raf.specs.Concern.{needed, none_missing}
-use Rattle.raf.specs.Apply.{apply}
+use Rattle.raf.specs.Concern.{needed}
 use Rattle.raf.specs.Outside.{Outside}
-use Rattle.raf.specs.Stepped.{Stepped, Holds}
+use Rattle.raf.specs.Stepped.{Stepped}
 use Rattle.raf.specs.declared.format.header.Header.{Header}
-use Rattle.raf.specs.declared.command.Command.{Command}
 use Rattle.raf.specs.declared.command.Command.TheVariants as command
 use Rattle.raf.specs.declared.command.Reply.{Reply}
 use Rattle.raf.specs.declared.command.Reply.TheVariants.{Size, Refused}

@@ -1,27 +1,24 @@
 -- A session goes on by one command, and ends.
-use Rattle.std.proofs.Common.{◌≡◌, inl, inr, ℕ, ◌+◌, ◌-◌, ◌*◌, ◌<◌, ◌≤◌, min, max, Bool, true, false, List, [], ◌∷◌, ◌++◌, length, take, drop, Option, Some, None, refl, sym, ◌∙◌, ap, subst, arith, length-append, length-take, append_assoc}
-use Rattle.std.proofs.lemmas.Bool.{false≢true}
+use Rattle.std.proofs.Common.{◌≡◌, inl, inr, ℕ, ◌+◌, ◌*◌, ◌≤◌, max, true, false, List, [], ◌∷◌, ◌++◌, length, take, Some, refl, sym, ◌∙◌, ap, subst, arith, length-append, append_assoc}
 use Rattle.std.proofs.lemmas.List.{take_all, take_at}
 use Rattle.std.proofs.Math.Nat.{mul-add}
-use Rattle.raf.specs.Source.{Takes, TakesAtMost}
 use Rattle.raf.specs.Cipher.{Cipher, IsLawful}
-use Rattle.raf.specs.File.{File, Opens, file_layout}
+use Rattle.raf.specs.File.{File, file_layout}
 use Rattle.raf.specs.Apply.{apply, replies_of, file_after, longest}
 use Rattle.raf.specs.Image.{traced, bytes_after, asked_by, asked_in, changes_by, changes_in, traffic_by, traffic_in}
-use Rattle.raf.specs.Outside.{Outside, Kept, Quiet, Caused, Moved}
-use Rattle.raf.specs.Session.{AllAuthentic, AllShaped, Course, Whole, Faulted, CutShort, Faultable, MayFail, Shaped, shaped_size, begun}
-use Rattle.raf.specs.Stepped.{Holds, Stepped, Done, with_size}
-use Rattle.raf.specs.Ended.{SoFar, Progress, Ran, Ended, shaped_end}
+use Rattle.raf.specs.Outside.{Outside, Caused, Moved}
+use Rattle.raf.specs.Session.{MayFail, Shaped, shaped_size, begun}
+use Rattle.raf.specs.Stepped.{Holds, Stepped, with_size}
+use Rattle.raf.specs.Ended.{SoFar, Progress, Ended, shaped_end}
 use Rattle.raf.specs.Kinds.{is_fault}
 use Rattle.raf.specs.declared.format.header.Header.{Header}
 use Rattle.raf.specs.declared.command.Command.{Command}
 use Rattle.raf.specs.declared.command.Reply.{Reply}
 use Rattle.raf.specs.declared.command.Reply.TheVariants.{Refused}
-use Rattle.raf.specs.declared.errors.ErrorKind.{ErrorKind}
 use Rattle.raf.proofs.Opened.{opens_held}
 use Rattle.raf.proofs.Moves.{moved_same, moved_less, moved_then, quiet_same, quiet_then, caused_later, takes_none, takes_then}
 use Rattle.raf.proofs.Still.{moved_loose}
-use Rattle.raf.proofs.Runs.{replies-push, after-push, asked-push, changes-push, traffic-push, longest-push, longest_last, traced-extra, traced-push, authentic-push, shaped-push, shaped_end-push}
+use Rattle.raf.proofs.Runs.{replies-push, after-push, asked-push, changes-push, traffic-push, longest-push, longest_last, traced-push, authentic-push, shaped-push, shaped_end-push}
 
 pub progress_none : (C : Cipher) (key : List ℕ) (h : Header) (old : Outside) (rs : List Reply) → rs ≡ [] → Progress C key h h [] rs old old
 progress_none C key h old rs none = subst (λ (l : List Reply). Progress C key h h [] l old old) (sym none) (record {

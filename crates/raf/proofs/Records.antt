@@ -4,9 +4,8 @@ use Rattle.std.specs.Prelude.{MatchBool}
 use Rattle.std.specs.Bool.{OnTrue, OnFalse}
 use Rattle.std.proofs.lemmas.List.{take_at, drop_at, take-take, drop-take}
 use Rattle.aegis_core.specs.Sealing.{seal, Unseals}
-use Rattle.aegis_core.specs.Laws.{IsSealing}
 use Rattle.aegis_core.specs.declared.variant.Variant.{Variant}
-use Rattle.raf.specs.Cipher.{Cipher, cipher_of}
+use Rattle.raf.specs.Cipher.{cipher_of}
 use Rattle.raf.specs.File.{beside, sealed}
 use Rattle.raf.specs.Stepped.{unsealed}
 use Rattle.aegis_core.proofs.Laws.{is_sealing}

@@ -1,15 +1,15 @@
 -- A command that leaves the file as it is.
-use Rattle.std.proofs.Common.{◌≡◌, inl, inr, ℕ, zero, suc, ◌+◌, ◌-◌, ◌*◌, ◌<◌, ◌≤◌, min, max, Bool, true, false, cond, List, [], ◌∷◌, ◌++◌, length, take, drop, Option, Some, None, refl, sym, ◌∙◌, ap, subst, arith}
+use Rattle.std.proofs.Common.{◌≡◌, inl, inr, ℕ, ◌+◌, ◌<◌, ◌≤◌, max, Bool, true, false, cond, List, [], ◌∷◌, length, take, drop, Option, Some, refl, sym, ◌∙◌, ap, subst, arith}
 use Rattle.std.specs.Prelude.{◌⊎◌}
 use Rattle.std.proofs.lemmas.Bool.{false≢true}
-use Rattle.raf.specs.Source.{Takes, TakesAtMost}
-use Rattle.raf.specs.Cipher.{Cipher, IsLawful}
-use Rattle.raf.specs.File.{File, chunk_count, file_layout, layout_len}
+use Rattle.raf.specs.Source.{Takes}
+use Rattle.raf.specs.Cipher.{Cipher}
+use Rattle.raf.specs.File.{File, chunk_count, file_layout}
 use Rattle.raf.specs.Concern.{size_after, touched, needed, sum_where}
 use Rattle.raf.specs.Apply.{apply}
 use Rattle.raf.specs.Image.{image, is_change, bytes_after, asked_by, changes_by, traffic_by, record_len}
 use Rattle.raf.specs.Outside.{Outside, Kept, Quiet, Caused, Moved}
-use Rattle.raf.specs.Session.{Spares, Faultable, Concerned, Authentic, Shaped, shaped_size, MayFail, is_barred}
+use Rattle.raf.specs.Session.{Faultable, Concerned, Authentic, Shaped, shaped_size, MayFail}
 use Rattle.raf.specs.Stepped.{Holds, Stepped, Cut, with_size, unsealed}
 use Rattle.raf.specs.Loaded.{Loaded}
 use Rattle.raf.specs.Kinds.{is_fault, is_refused}

@@ -1,10 +1,8 @@
 -- Sums over the chunks of a file that has one at most.
-use Rattle.std.proofs.Common.{◌≡◌, ℕ, zero, suc, ◌+◌, ◌-◌, ◌*◌, ◌<◌, ◌≤◌, min, Bool, true, false, cond, List, Option, refl, sym, ◌∙◌, ap, arith}
-use Rattle.raf.specs.File.{File, chunk_count, chunk_len, layout_len, file_layout}
-use Rattle.raf.specs.Concern.{size_after, touched, needed, sum_where}
-use Rattle.raf.specs.Image.{record_len, asked_by, changes_by, traffic_by}
-use Rattle.raf.specs.Kinds.{is_refused}
-use Rattle.raf.specs.Apply.{apply}
+use Rattle.std.proofs.Common.{◌≡◌, ℕ, zero, suc, ◌+◌, ◌<◌, ◌≤◌, Bool, true, false, cond, refl, ◌∙◌, ap, arith}
+use Rattle.raf.specs.File.{File, chunk_count, chunk_len, file_layout}
+use Rattle.raf.specs.Concern.{needed, sum_where}
+use Rattle.raf.specs.Image.{record_len}
 use Rattle.raf.specs.declared.command.Command.{Command}
 use Rattle.raf.proofs.Chunks.{count_one}
 use Rattle.raf.proofs.Headers.{layout_one}

@@ -1,16 +1,16 @@
 -- A write that was carried out, and one that a fault cut short.
-use Rattle.std.proofs.Common.{◌≡◌, inl, inr, ℕ, zero, suc, ◌+◌, ◌-◌, ◌*◌, ◌<◌, ◌≤◌, min, max, Bool, true, false, cond, List, [], ◌∷◌, ◌++◌, length, take, drop, Option, Some, None, refl, sym, ◌∙◌, ap, subst, arith}
+use Rattle.std.proofs.Common.{◌≡◌, ℕ, ◌+◌, ◌<◌, ◌≤◌, max, true, false, cond, List, length, take, Some, refl, sym, ◌∙◌, ap, subst, arith}
 use Rattle.std.specs.Prelude.{nat_eq}
 use Rattle.std.proofs.lemmas.Bool.{false≢true}
 use Rattle.raf.specs.Source.{Takes, TakesAtMost}
 use Rattle.raf.specs.Cipher.{Cipher, IsLawful}
-use Rattle.raf.specs.File.{File, chunk_count, file_layout, record_at}
-use Rattle.raf.specs.Concern.{size_after, touched, needed, sum_where}
+use Rattle.raf.specs.File.{File, chunk_count, file_layout}
+use Rattle.raf.specs.Concern.{touched, needed, sum_where}
 use Rattle.raf.specs.Apply.{apply}
 use Rattle.raf.specs.Image.{bytes_after, asked_by, changes_by, traffic_by, record_len}
 use Rattle.raf.specs.Outside.{Outside, Quiet, Caused, Moved}
 use Rattle.raf.specs.Loaded.{Spared}
-use Rattle.raf.specs.Session.{Spares, Faultable, Concerned, MayFail}
+use Rattle.raf.specs.Session.{Spares, Faultable, MayFail}
 use Rattle.raf.specs.Stepped.{Holds, Stepped, Cut, with_size, message, stored, laid}
 use Rattle.raf.specs.Kinds.{is_fault, is_refused}
 use Rattle.raf.specs.declared.format.header.Header.{Header}

@@ -1,18 +1,15 @@
 -- What a write answers over a file of one chunk at most, and the file after it.
-use Rattle.std.proofs.Common.{◌≡◌, inl, inr, ℕ, ◌+◌, ◌-◌, ◌*◌, ◌^◌, ◌<◌, ◌≤◌, min, max, Bool, true, false, cond, not, ◌&&◌, ◌||◌, List, [], ◌∷◌, ◌++◌, length, take, drop, Option, Some, None, refl, sym, ◌∙◌, ap, subst, arith}
-use Rattle.std.specs.Prelude.{nat_lt, nat_le, nat_eq, is_some, unwrap_or}
+use Rattle.std.proofs.Common.{◌≡◌, ℕ, ◌+◌, ◌*◌, ◌^◌, ◌<◌, ◌≤◌, min, max, Bool, true, false, cond, not, ◌&&◌, ◌||◌, List, [], ◌∷◌, ◌++◌, length, take, drop, Option, Some, None, refl, sym, ◌∙◌, ap, arith}
+use Rattle.std.specs.Prelude.{nat_lt, nat_le, is_some, unwrap_or}
 use Rattle.std.proofs.lemmas.List.{append-nil, drop_all}
-use Rattle.std.proofs.lemmas.Bool.{cases_lt}
 use Rattle.std.proofs.lemmas.Bool.Decides.{nat_tests}
 use Rattle.raf.specs.Storage.{resized}
 use Rattle.raf.specs.File.{File, chunk_count, chunk_len, layout_len}
-use Rattle.raf.specs.Concern.{fits, needed, touched, size_after, none_missing, is_touched, is_needed, written_size}
+use Rattle.raf.specs.Concern.{fits, needed, touched, size_after, none_missing, is_touched, is_needed}
 use Rattle.raf.specs.Apply.{apply, overlaid, rebuilt, written, after_write}
 use Rattle.raf.specs.Image.{is_change}
 use Rattle.raf.specs.Session.{is_barred}
 use Rattle.raf.specs.Stepped.{message, stored}
-use Rattle.raf.specs.Kinds.{is_refused}
-use Rattle.raf.specs.declared.command.Command.{Command}
 use Rattle.raf.specs.declared.command.Command.TheVariants.{Write}
 use Rattle.raf.specs.declared.command.Reply.{Reply}
 use Rattle.raf.specs.declared.command.Reply.TheVariants.{Wrote, Refused}

@@ -1,8 +1,8 @@
 -- What commands do to a file, and what they answer. The file has no hasher.
-use Rattle.std.specs.Prelude.{ℕ, zero, suc, ◌+◌, ◌-◌, ◌*◌, min, max, Bool, ◌&&◌, if◌then◌else◌, nat_lt, nat_le, nat_eq, List, [], ◌∷◌, ◌++◌, length, take, drop, slice_index, Option, Some, None, unwrap_or}
+use Rattle.std.specs.Prelude.{ℕ, zero, suc, ◌+◌, ◌-◌, ◌*◌, min, max, ◌&&◌, if◌then◌else◌, nat_lt, nat_le, nat_eq, List, [], ◌∷◌, ◌++◌, length, take, drop, slice_index, Option, Some, None, unwrap_or}
 use Rattle.raf.specs.Storage.{resized}
 use Rattle.raf.specs.File.{File, chunk_count, chunk_len, file_layout}
-use Rattle.raf.specs.Concern.{is_read, is_touched, is_needed, is_resized, written_size, needed, fits, none_missing, is_unbuilt}
+use Rattle.raf.specs.Concern.{is_touched, is_resized, written_size, needed, fits, none_missing, is_unbuilt}
 use Rattle.raf.specs.declared.command.Command.{Command}
 use Rattle.raf.specs.declared.command.Command.TheVariants as command
 use Rattle.raf.specs.declared.command.Reply.{Reply}

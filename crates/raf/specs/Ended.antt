@@ -1,5 +1,5 @@
 -- A run of commands on an open file: what the code of a session hands from the commands to the whole.
-use Rattle.std.specs.Prelude.{◌≡◌, ℕ, ◌+◌, ◌*◌, List, [], ◌∷◌, ◌++◌, length, Option, Some, ◌⊎◌}
+use Rattle.std.specs.Prelude.{◌≡◌, ℕ, ◌*◌, List, [], ◌∷◌, length, Some, ◌⊎◌}
 use Rattle.raf.specs.Source.{Takes}
 use Rattle.raf.specs.Cipher.{Cipher}
 use Rattle.raf.specs.File.{File}

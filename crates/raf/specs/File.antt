@@ -1,5 +1,5 @@
 -- An encrypted file: a header, and a record for each chunk (this project's own layout).
-use Rattle.std.specs.Prelude.{◌≡◌, ℕ, zero, suc, ◌+◌, ◌-◌, ◌*◌, ◌/◌, ◌^◌, ◌<◌, ◌≤◌, min, List, [], ◌∷◌, ◌++◌, length, take, drop, Option, Some, None, ⊤}
+use Rattle.std.specs.Prelude.{◌≡◌, ℕ, ◌+◌, ◌-◌, ◌*◌, ◌/◌, ◌^◌, ◌<◌, min, List, [], ◌∷◌, ◌++◌, length, take, drop, Option, Some, None, ⊤}
 use Rattle.std.specs.Int.{w64, to_le_bytes}
 use Rattle.raf.specs.Cipher.{Cipher}
 use Rattle.raf.specs.Header.{Says, Tagged}

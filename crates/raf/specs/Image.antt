@@ -1,6 +1,6 @@
 -- The bytes of a storage after commands, each new record sealed under the nonce that stood in front of the random source; and the
 -- most that commands ask.
-use Rattle.std.specs.Prelude.{◌≡◌, ℕ, ◌+◌, ◌*◌, Bool, true, false, not, if◌then◌else◌, nat_eq, nat_lt, List, [], ◌∷◌, ◌++◌, length, take, drop, Option, unwrap_or}
+use Rattle.std.specs.Prelude.{ℕ, ◌+◌, Bool, true, false, not, if◌then◌else◌, nat_eq, nat_lt, List, [], ◌∷◌, ◌++◌, take, drop, Option, unwrap_or}
 use Rattle.raf.specs.Cipher.{Cipher}
 use Rattle.raf.specs.Header.{sealed_header}
 use Rattle.raf.specs.File.{File, chunk_count, chunk_len, sealed, record_at}

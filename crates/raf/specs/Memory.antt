@@ -1,5 +1,5 @@
 -- What a storage in memory holds, when its calls fail, and what a source in memory has left.
-use Rattle.std.specs.Prelude.{◌≡◌, ℕ, List, Bool, true, cond, drop, nat_eq}
+use Rattle.std.specs.Prelude.{◌≡◌, ℕ, List, Bool, cond, drop, nat_eq}
 use Rattle.std.specs.List.{list_any}
 use Rattle.raf.specs.Counts.{raised}
 use Rattle.raf.specs.declared.memory.MemIo.{MemIo}

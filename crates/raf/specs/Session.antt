@@ -1,15 +1,15 @@
 -- What a session answers.
-use Rattle.std.specs.Prelude.{◌≡◌, ℕ, zero, suc, ◌+◌, ◌-◌, ◌*◌, ◌^◌, ◌<◌, ◌≤◌, min, max, Bool, true, false, cond, nat_lt, List, [], ◌∷◌, ◌++◌, length, take, drop, slice_index, Option, Some, Result, IfOk, IfErr, ⊤, ◌⊎◌}
+use Rattle.std.specs.Prelude.{◌≡◌, ℕ, ◌+◌, ◌-◌, ◌*◌, ◌^◌, ◌<◌, ◌≤◌, min, max, Bool, true, false, List, [], ◌∷◌, ◌++◌, length, take, drop, slice_index, Option, Some, Result, IfOk, IfErr, ⊤, ◌⊎◌}
 use Rattle.raf.specs.Counts.{Rose}
 use Rattle.raf.specs.Source.{Takes, TakesAtMost}
 use Rattle.raf.specs.Cipher.{Cipher}
 use Rattle.raf.specs.Header.{Says, Tagged}
-use Rattle.raf.specs.File.{File, Opens, IsSealedFor, record_at, chunk_count, file_layout, layout_len}
+use Rattle.raf.specs.File.{File, Opens, IsSealedFor, record_at, chunk_count, layout_len}
 use Rattle.raf.specs.Concern.{size_after, touched, needed, sum_where}
 use Rattle.raf.specs.Apply.{apply, replies_of, file_after, longest}
 use Rattle.raf.specs.Image.{traced, bytes_after, asked_by, asked_in, changes_in, traffic_in}
 use Rattle.raf.specs.Outside.{Outside, Kept, Quiet, Caused, Moved}
-use Rattle.raf.specs.Kinds.{is_fault, is_refused, kind_of}
+use Rattle.raf.specs.Kinds.{is_refused, kind_of}
 use Rattle.raf.specs.declared.format.header.Header.{Header}
 use Rattle.raf.specs.declared.command.Command.{Command}
 use Rattle.raf.specs.declared.command.Command.TheVariants as command

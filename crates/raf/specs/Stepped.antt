@@ -1,5 +1,5 @@
 -- One command on an open file: what the code of a session hands from one command to the next.
-use Rattle.std.specs.Prelude.{◌≡◌, ℕ, zero, suc, ◌+◌, ◌-◌, ◌*◌, ◌<◌, ◌≤◌, max, Bool, true, false, List, [], ◌∷◌, ◌++◌, length, take, drop, Option, Some, replicate, ⊤}
+use Rattle.std.specs.Prelude.{◌≡◌, ℕ, zero, suc, ◌+◌, max, true, false, List, [], ◌∷◌, ◌++◌, length, take, drop, Option, Some, replicate}
 use Rattle.raf.specs.Storage.{resized}
 use Rattle.raf.specs.Source.{Takes, TakesAtMost}
 use Rattle.raf.specs.Cipher.{Cipher}

@@ -1,5 +1,5 @@
 -- What the calls of a storage do to its bytes, where it tells them.
-use Rattle.std.specs.Prelude.{◌≡◌, ℕ, ◌+◌, ◌-◌, ◌≤◌, max, min, List, ◌++◌, length, take, drop, replicate, ⊤, Option, Some, None, Result, OnOk, OnErr, IfOk, ◌↔◌}
+use Rattle.std.specs.Prelude.{◌≡◌, ℕ, ◌+◌, ◌-◌, ◌≤◌, max, min, List, ◌++◌, length, take, drop, replicate, ⊤, Option, Some, None}
 use Rattle.raf.specs.Counts.{raised}
 
 -- bytes of which this much is asked, with zeros past the end

@@ -1,4 +1,4 @@
-use Rattle.std.proofs.Common.{◌≡◌, ℕ, List, Ok, refl, sym, ◌∙◌, ap, subst}
+use Rattle.std.proofs.Common.{◌≡◌, ℕ, List, Ok, refl, sym, ap, subst}
 use Rattle.raf.specs.Cipher.{cipher_of}
 use Rattle.raf.specs.File.{IsFile}
 use Rattle.raf.specs.Kinds.{kind_of}

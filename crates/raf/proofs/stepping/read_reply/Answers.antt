@@ -1,10 +1,8 @@
-use Rattle.std.proofs.Common.{◌≡◌, inl, inr, ℕ, ◌+◌, ◌-◌, ◌<◌, ◌≤◌, min, List, [], take, drop, length, Option, Some, None, refl, sym, ◌∙◌, ap, subst, arith, rules, vec_len, length-take, length-drop}
+use Rattle.std.proofs.Common.{◌≡◌, inl, inr, ℕ, ◌+◌, ◌-◌, ◌<◌, ◌≤◌, min, List, [], take, drop, length, Some, None, refl, sym, ◌∙◌, ap, subst, arith, rules, vec_len, length-take, length-drop}
 use Rattle.std.proofs.lemmas.List.{length-replicate}
 use Rattle.raf.specs.Cipher.{cipher_of}
 use Rattle.raf.specs.File.{File}
-use Rattle.raf.specs.Apply.{apply}
 use Rattle.raf.specs.Loaded.{Loaded}
-use Rattle.raf.specs.Stepped.{Holds}
 use Rattle.raf.specs.declared.command.Command.TheVariants.{Read}
 use Rattle.raf.specs.declared.command.Reply.TheVariants.{Bytes}
 use Rattle.raf.specs.declared.errors.ErrorKind.{ErrorKind}

@@ -1,4 +1,4 @@
-use Rattle.std.proofs.Common.{◌≡◌, inl, inr, sym, subst}
+use Rattle.std.proofs.Common.{inl, inr, sym, subst}
 use Rattle.raf.specs.Cipher.{cipher_of}
 use Rattle.raf.specs.Stepped.{Stepped}
 use Rattle.raf.specs.declared.command.Command.{Command}

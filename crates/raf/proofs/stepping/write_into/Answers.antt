@@ -1,4 +1,4 @@
-use Rattle.std.proofs.Common.{◌≡◌, inl, inr, ℕ, ◌+◌, ◌≤◌, max, cond, List, [], length, take, drop, Option, Some, None, refl, sym, ◌∙◌, ap, subst, arith, length-take}
+use Rattle.std.proofs.Common.{◌≡◌, inl, ℕ, ◌+◌, max, cond, List, length, take, drop, Option, Some, None, refl, sym, ◌∙◌, ap, subst, arith, length-take}
 use Rattle.std.specs.Prelude.{nat_eq}
 use Rattle.raf.specs.Source.{Takes, TakesAtMost}
 use Rattle.raf.specs.Cipher.{cipher_of}

@@ -1,4 +1,4 @@
-use Rattle.std.proofs.Common.{◌≡◌, ℕ, ◌+◌, ◌≤◌, max, cond, [], length, take, sym, ◌∙◌, ap, subst, arith, length-take}
+use Rattle.std.proofs.Common.{◌≡◌, ℕ, ◌+◌, max, cond, [], length, take, sym, subst, arith, length-take}
 use Rattle.std.specs.Prelude.{nat_eq}
 use Rattle.raf.specs.Cipher.{cipher_of}
 use Rattle.raf.specs.Outside.{Moved, Caused}

@@ -1,4 +1,4 @@
-use Rattle.std.proofs.Common.{◌≡◌, inl, inr, ℕ, ◌+◌, ◌<◌, length, refl, arith, ap}
+use Rattle.std.proofs.Common.{◌≡◌, inl, inr, ◌+◌, ◌<◌, length, refl, arith}
 use Rattle.raf.specs.Cipher.{cipher_of}
 use Rattle.raf.specs.declared.command.Command.TheVariants.{Write}
 use Rattle.raf.specs.declared.command.Reply.TheVariants.{Refused, Wrote}

@@ -1,4 +1,4 @@
-use Rattle.std.proofs.Common.{◌≡◌, ℕ, ◌/◌, ◌≤◌, List, length, take, arith, length-take}
+use Rattle.std.proofs.Common.{ℕ, ◌/◌, ◌≤◌, List, length, take, arith, length-take}
 use Rattle.raf.proofs.Bytes.{torn_either}
 use Rattle.raf.proofs.torn.tear.Goals as goal
 
