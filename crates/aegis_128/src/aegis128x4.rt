@@ -4,7 +4,7 @@ ghost use Rattle.std.specs.Prelude.{refl};
 ghost use Rattle.aegis_core.specs.declared.variant.Variant.TheVariants.{Aegis128X4};
 
 pub use aegis_core::Error;
-use aegis_core::{Cipher, CipherKind, Variant};
+use aegis_core::{Cipher, CipherKind, Mac, Names, SoftLanes128, Variant};
 
 /// A key.
 pub type Key = [u8; 16];
@@ -16,13 +16,33 @@ pub type Nonce = [u8; 16];
 pub type Tag<const TAG_BYTES: usize> = [u8; TAG_BYTES];
 
 /// The cipher under a key and a nonce.
-pub type Aegis128X4<const TAG_BYTES: usize> = Cipher<Kind, 16, TAG_BYTES>;
+pub type Aegis128X4<const TAG_BYTES: usize> = Cipher<Kind, SoftLanes128, 16, TAG_BYTES>;
+
+/// A message that is encrypted piece by piece.
+pub type Encryptor<const TAG_BYTES: usize> = aegis_core::Encryptor<
+    Kind,
+    SoftLanes128,
+    16,
+    TAG_BYTES,
+>;
+
+/// A cipher text that is decrypted piece by piece into a lent destination.
+pub type Decryptor<'a, const TAG_BYTES: usize> = aegis_core::Decryptor<
+    'a,
+    Kind,
+    SoftLanes128,
+    16,
+    TAG_BYTES,
+>;
+
+/// The MAC of a text that comes in pieces.
+pub type Aegis128X4Mac<const TAG_BYTES: usize> = Mac<Kind, SoftLanes128, 16, TAG_BYTES>;
 
 /// What tells Aegis128X4 from the other ciphers.
 #[derive(Clone, Copy)]
 pub struct Kind;
 
-impl CipherKind<16> for Kind {
+impl CipherKind<SoftLanes128, 16> for Kind {
     ghost variant = { Aegis128X4 };
 
     ghost key = { refl };
@@ -33,7 +53,16 @@ impl CipherKind<16> for Kind {
         Variant::Aegis128X4
     }
 
-    fn name() -> &'static str {
-        "Aegis128X4"
+    fn names() -> Names {
+        Names {
+            cipher: "Aegis128X4",
+            encryptor: "aegis128x4::Encryptor",
+            decryptor: "aegis128x4::Decryptor",
+            mac: "Aegis128X4Mac",
+        }
+    }
+
+    fn lanes(key: &Key, nonce: &Nonce) -> SoftLanes128 {
+        SoftLanes128::new(4, key, nonce)
     }
 }

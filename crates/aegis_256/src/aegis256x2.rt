@@ -4,7 +4,7 @@ ghost use Rattle.std.specs.Prelude.{refl};
 ghost use Rattle.aegis_core.specs.declared.variant.Variant.TheVariants.{Aegis256X2};
 
 pub use aegis_core::Error;
-use aegis_core::{Cipher, CipherKind, Variant};
+use aegis_core::{Cipher, CipherKind, Mac, Names, SoftLanes256, Variant};
 
 /// A key.
 pub type Key = [u8; 32];
@@ -16,13 +16,33 @@ pub type Nonce = [u8; 32];
 pub type Tag<const TAG_BYTES: usize> = [u8; TAG_BYTES];
 
 /// The cipher under a key and a nonce.
-pub type Aegis256X2<const TAG_BYTES: usize> = Cipher<Kind, 32, TAG_BYTES>;
+pub type Aegis256X2<const TAG_BYTES: usize> = Cipher<Kind, SoftLanes256, 32, TAG_BYTES>;
+
+/// A message that is encrypted piece by piece.
+pub type Encryptor<const TAG_BYTES: usize> = aegis_core::Encryptor<
+    Kind,
+    SoftLanes256,
+    32,
+    TAG_BYTES,
+>;
+
+/// A cipher text that is decrypted piece by piece into a lent destination.
+pub type Decryptor<'a, const TAG_BYTES: usize> = aegis_core::Decryptor<
+    'a,
+    Kind,
+    SoftLanes256,
+    32,
+    TAG_BYTES,
+>;
+
+/// The MAC of a text that comes in pieces.
+pub type Aegis256X2Mac<const TAG_BYTES: usize> = Mac<Kind, SoftLanes256, 32, TAG_BYTES>;
 
 /// What tells Aegis256X2 from the other ciphers.
 #[derive(Clone, Copy)]
 pub struct Kind;
 
-impl CipherKind<32> for Kind {
+impl CipherKind<SoftLanes256, 32> for Kind {
     ghost variant = { Aegis256X2 };
 
     ghost key = { refl };
@@ -33,7 +53,16 @@ impl CipherKind<32> for Kind {
         Variant::Aegis256X2
     }
 
-    fn name() -> &'static str {
-        "Aegis256X2"
+    fn names() -> Names {
+        Names {
+            cipher: "Aegis256X2",
+            encryptor: "aegis256x2::Encryptor",
+            decryptor: "aegis256x2::Decryptor",
+            mac: "Aegis256X2Mac",
+        }
+    }
+
+    fn lanes(key: &Key, nonce: &Nonce) -> SoftLanes256 {
+        SoftLanes256::new(2, key, nonce)
     }
 }

@@ -5,6 +5,8 @@ pub mod aegis256;
 pub mod aegis256x2;
 pub mod aegis256x4;
 #[cfg(test)]
+mod piece_tests;
+#[cfg(test)]
 mod tests;
 
 pub use aegis_core::Error;

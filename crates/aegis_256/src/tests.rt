@@ -2,13 +2,13 @@
 ghost use Rattle.std.specs.Prelude.{◌<◌, ◌^◌};
 
 use crate::{aegis256, aegis256x2, aegis256x4};
-use aegis_core::{Cipher, CipherKind, Error};
+use aegis_core::{Cipher, CipherKind, Error, SoftLanes256};
 use std::alloc::Global;
 use std::process::Abort;
 use std::test::Fail;
 
 // Byte i is `step * i + first`, modulo 256.
-fn stepped(out: &mut [u8], step: u8, first: u8) {
+pub fn stepped(out: &mut [u8], step: u8, first: u8) {
     let mut byte = first;
     for i in 0..out.len() {
         out[i] = byte;
@@ -27,7 +27,7 @@ fn digit(value: u8) -> u8
 }
 
 // Whether the text is the bytes in hex.
-fn is_hex(bytes: &[u8], text: &[u8]) -> bool {
+pub fn is_hex(bytes: &[u8], text: &[u8]) -> bool {
     if text.len() / 2 != bytes.len() {
         return false;
     }
@@ -49,7 +49,7 @@ struct Figure {
     long_tag: &'static [u8],
 }
 
-fn sealed_as<K: CipherKind<32>>(rt: &impl Abort, figure: &Figure) {
+fn sealed_as<K: CipherKind<SoftLanes256, 32>>(rt: &impl Abort, figure: &Figure) {
     let (mut key, mut nonce) = ([0u8; 32], [0u8; 32]);
     stepped(&mut key, 7, 3);
     stepped(&mut nonce, 11, 1);
@@ -60,12 +60,12 @@ fn sealed_as<K: CipherKind<32>>(rt: &impl Abort, figure: &Figure) {
     let ad = &ad[..figure.ad_len];
     let mut buffer = message;
     let mc = &mut buffer[..figure.message_len];
-    let short = Cipher::<K, 32, 16>::new(&key, &nonce);
+    let short = Cipher::<K, SoftLanes256, 32, 16>::new(&key, &nonce);
     let short_tag = short.encrypt_in_place(mc, ad);
     assert!(rt; is_hex(mc, figure.text));
     assert!(rt; is_hex(&short_tag, figure.short_tag));
     assert!(rt; short.decrypt_in_place(mc, &short_tag, ad).is_ok());
-    let long = Cipher::<K, 32, 32>::new(&key, &nonce);
+    let long = Cipher::<K, SoftLanes256, 32, 32>::new(&key, &nonce);
     let long_tag = long.encrypt_in_place(mc, ad);
     assert!(rt; is_hex(&long_tag, figure.long_tag));
     assert!(rt; long.decrypt_in_place(mc, &long_tag, ad).is_ok());
@@ -195,14 +195,18 @@ fn vectors_of_the_specification(rt: HostRuntime) {
 }
 
 // The keystream and the allocating calls agree with sealing in place, for a message of `n` bytes.
-fn agrees<K: CipherKind<32>>(rt: &impl Abort, alloc: Global, n: usize) -> Result<(), Fail>
+fn agrees<K: CipherKind<SoftLanes256, 32>>(
+    rt: &impl Abort,
+    alloc: Global,
+    n: usize,
+) -> Result<(), Fail>
     requires { n < 2 ^ 61 }
 {
     let (mut key, mut nonce) = ([0u8; 32], [0u8; 32]);
     stepped(&mut key, 13, 5);
     stepped(&mut nonce, 13, 11);
-    let short = Cipher::<K, 32, 16>::new(&key, &nonce);
-    let long = Cipher::<K, 32, 32>::new(&key, &nonce);
+    let short = Cipher::<K, SoftLanes256, 32, 16>::new(&key, &nonce);
+    let long = Cipher::<K, SoftLanes256, 32, 32>::new(&key, &nonce);
     let mut message = Vec::from_elem(alloc, 0u8, n)?;
     stepped(&mut message, 13, 1);
     let mut stream = Vec::from_elem(alloc, 0xffu8, n)?;
@@ -245,8 +249,12 @@ fn streams_and_allocating_calls_agree_with_sealing(rt: HostRuntime) -> Result<()
     Ok(())
 }
 
-fn refuses<K: CipherKind<32>>(rt: &impl Abort, alloc: Global, name: &str) -> Result<(), Fail> {
-    let cipher = Cipher::<K, 32, 16>::new(&[1; 32], &[2; 32]);
+fn refuses<K: CipherKind<SoftLanes256, 32>>(
+    rt: &impl Abort,
+    alloc: Global,
+    name: &str,
+) -> Result<(), Fail> {
+    let cipher = Cipher::<K, SoftLanes256, 32, 16>::new(&[1; 32], &[2; 32]);
     let mut mc = [7u8; 50];
     let mut tag = cipher.encrypt_in_place(&mut mc, b"ad");
     tag[15] ^= 0x80;
