@@ -1,6 +1,6 @@
 //! Messages, cipher texts and MACs that come in pieces.
-use crate::{aegis256, aegis256x2, aegis256x4};
 use crate::tests::{is_hex, stepped};
+use crate::{aegis256, aegis256x2, aegis256x4};
 use aegis_core::{Cipher, CipherKind, Error, Mac, SoftLanes256};
 use std::alloc::Global;
 use std::process::Abort;
@@ -177,7 +177,11 @@ fn mac_figures_of_an_independent_program(rt: HostRuntime) {
     }
 }
 
-fn shows<K: CipherKind<SoftLanes256, 32>>(rt: &impl Abort, alloc: Global, names: [&str; 3]) -> Result<(), Fail> {
+fn shows<K: CipherKind<SoftLanes256, 32>>(
+    rt: &impl Abort,
+    alloc: Global,
+    names: [&str; 3],
+) -> Result<(), Fail> {
     let cipher = Cipher::<K, SoftLanes256, 32, 16>::new(&[5; 32], &[6; 32]);
     let encryptor = cipher.encryptor(&[]);
     let shown = format!(in alloc; "{encryptor:?}")?;
@@ -194,8 +198,32 @@ fn shows<K: CipherKind<SoftLanes256, 32>>(rt: &impl Abort, alloc: Global, names:
 
 #[test]
 fn debug_shows_the_names(rt: HostRuntime) -> Result<(), Fail> {
-    shows::<aegis256::Kind>(&rt, rt.alloc(), ["aegis256::Encryptor { .. }", "aegis256::Decryptor { .. }", "Aegis256Mac { .. }"])?;
-    shows::<aegis256x2::Kind>(&rt, rt.alloc(), ["aegis256x2::Encryptor { .. }", "aegis256x2::Decryptor { .. }", "Aegis256X2Mac { .. }"])?;
-    shows::<aegis256x4::Kind>(&rt, rt.alloc(), ["aegis256x4::Encryptor { .. }", "aegis256x4::Decryptor { .. }", "Aegis256X4Mac { .. }"])?;
+    shows::<aegis256::Kind>(
+        &rt,
+        rt.alloc(),
+        [
+            "aegis256::Encryptor { .. }",
+            "aegis256::Decryptor { .. }",
+            "Aegis256Mac { .. }",
+        ],
+    )?;
+    shows::<aegis256x2::Kind>(
+        &rt,
+        rt.alloc(),
+        [
+            "aegis256x2::Encryptor { .. }",
+            "aegis256x2::Decryptor { .. }",
+            "Aegis256X2Mac { .. }",
+        ],
+    )?;
+    shows::<aegis256x4::Kind>(
+        &rt,
+        rt.alloc(),
+        [
+            "aegis256x4::Encryptor { .. }",
+            "aegis256x4::Decryptor { .. }",
+            "Aegis256X4Mac { .. }",
+        ],
+    )?;
     Ok(())
 }
