@@ -142,6 +142,14 @@ fn wrong_scripts_are_refused(rt: HostRuntime) -> Result<(), Fail> {
             "alg aegis128l\nkey 0001\n",
             "random -\nmerkle none\nstorage -\n",
         ),
+        (
+            "alg aegis128l\nkey 000102030405060708090a0b0c0d0e0f\nseed -\n",
+            "merkle none\nstorage -\n",
+        ),
+        (
+            "alg aegis128l\nkey 000102030405060708090a0b0c0d0e0f\nrandom -\n",
+            "merkle sha256 4\nstorage -\n",
+        ),
         (HEAD, "create 16\n"),
         (HEAD, "storage 010\n"),
         (HEAD, "storage 0g\n"),
