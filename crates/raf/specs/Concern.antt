@@ -91,7 +91,8 @@ is_merkle command.Verify = true
 is_merkle command.Commitment = true
 is_merkle _ = false
 
--- the command is valid: its numbers fit, no chunk that it needs is missing, and where it asks for the tree there is a limit, that is, a hasher
+-- the command is valid: its numbers fit, no chunk that it needs is missing, and where it asks for the tree there is a limit, that is,
+-- a hasher
 abbrev pub valid : Option ℕ → File → Command → Bool
 valid limit F c = fits limit F c && none_missing (needed F c) 0 F.chunks && (not (is_merkle c) || is_some limit)
 
