@@ -3,6 +3,7 @@ use Rattle.std.proofs.Common.{◌≡◌, ℕ, ◌+◌, ◌-◌, ◌*◌, ◌≤�
 use Rattle.std.proofs.lemmas.List.{get_or-take, get_or-drop}
 use Rattle.raf.specs.Cipher.{Cipher, IsLawful}
 use Rattle.raf.specs.File.{File, beside, IsSealedFor, record_at, chunk_len}
+use Rattle.raf.specs.Due.Due.{Exactly}
 use Rattle.raf.specs.Session.{Authentic}
 use Rattle.raf.specs.Stepped.{Holds, unsealed}
 use Rattle.raf.specs.declared.format.header.Header.{Header}
@@ -25,7 +26,7 @@ record_first nonce_len chunk_size size b one =
 pub authentic_piece : (C : Cipher) (lawful : IsLawful C) (key b : List ℕ) (h : Header) (F : File) (chunk_key : List ℕ) (offset len : ℕ) (m got : List ℕ)
     → Holds C key b h F → chunk_key ≡ C.chunk_key key h.id → h.file_size ≤ h.chunk_size
     → unsealed C chunk_key h.id 0 (take (C.nonce_len + h.file_size + 16) (drop 96 b)) ≡ Some m → length m ≡ h.file_size
-    → got ≡ take (min (offset + len) F.size - offset) (drop offset m) → Authentic C key b F (Read offset len) (Bytes got)
+    → got ≡ take (min (offset + len) F.size - offset) (drop offset m) → Authentic C key b F (Read offset len) (Exactly (Bytes got))
 authentic_piece C lawful key b h F chunk_key offset len m got held derived one opened long is = λ k below.
     let nonce_len : F.nonce_len ≡ C.nonce_len = ap (λ (f : File). f.nonce_len) held.file in
     let size : F.size ≡ h.file_size = ap (λ (f : File). f.size) held.file in

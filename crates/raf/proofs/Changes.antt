@@ -5,15 +5,15 @@ use Rattle.std.proofs.lemmas.List.{take_all, append-nil}
 use Rattle.raf.specs.Cipher.{Cipher, IsLawful}
 use Rattle.raf.specs.Header.{sealed_header}
 use Rattle.raf.specs.File.{File, chunk_count, file_layout, sealed, record_at}
-use Rattle.raf.specs.Concern.{size_after, touched, sum_where}
+use Rattle.raf.specs.Due.{Due, is_refused, is_barred}
+use Rattle.raf.specs.Due.Due.{Exactly}
+use Rattle.raf.specs.Concern.{no_limit, size_after, touched, sum_where}
 use Rattle.raf.specs.Apply.{apply}
 use Rattle.raf.specs.Image.{image, header_of, is_change, bytes_after, asked_by, changes_by, record_len}
-use Rattle.raf.specs.Session.{Shaped, shaped_size, MayFail, is_barred}
+use Rattle.raf.specs.Session.{Shaped, shaped_size, MayFail}
 use Rattle.raf.specs.Stepped.{Holds, with_size, message, stored, laid}
-use Rattle.raf.specs.Kinds.{is_refused}
 use Rattle.raf.specs.declared.format.header.Header.{Header}
 use Rattle.raf.specs.declared.command.Command.TheVariants.{Write}
-use Rattle.raf.specs.declared.command.Reply.{Reply}
 use Rattle.raf.specs.declared.command.Reply.TheVariants.{Wrote, Refused}
 use Rattle.raf.specs.declared.errors.ErrorKind.{ErrorKind}
 use Rattle.raf.specs.declared.errors.ErrorKind.TheVariants.{Io, AuthenticationFailed, Rng, Unbuilt}
@@ -80,7 +80,7 @@ module _ (C : Cipher) (lawful : IsLawful C) (key b : List ℕ) (h : Header) (F :
   count = write_count F offset text some (omega (arith, chunk_size)) (omega (arith, size, chunk_size)) (omega (arith, chunk_size, held.is_file.says.fields.least))
       (omega (arith, chunk_size, held.is_file.says.fields.most)) (omega (arith, nonce_len, lawful.nonce_most))
 
-  pub free : is_barred (apply F (Write offset text)).0 ≡ false
+  pub free : is_barred (apply no_limit F (Write offset text)).0 ≡ false
   free = write_free F offset text some (omega (arith, chunk_size)) (omega (arith, size, chunk_size)) (omega (arith, chunk_size, held.is_file.says.fields.least))
       (omega (arith, chunk_size, held.is_file.says.fields.most)) (omega (arith, nonce_len, lawful.nonce_most))
 
@@ -108,15 +108,15 @@ module _ (C : Cipher) (lawful : IsLawful C) (key b : List ℕ) (h : Header) (F :
   header_changes = ap (λ (t : Bool). cond {A = ℕ} t 0 1) same_size
 
   -- what it asks where nothing refuses it
-  module _ (accepted : is_refused (apply F (Write offset text)).0 ≡ false) where
-    pub asked_is : asked_by F (Write offset text) ≡ C.nonce_len
+  module _ (accepted : is_refused (apply no_limit F (Write offset text)).0 ≡ false) where
+    pub asked_is : asked_by no_limit F (Write offset text) ≡ C.nonce_len
     asked_is =
         ap (λ (t : Bool). cond {A = ℕ} t 0 (sum_where (touched F (Write offset text)) (λ _. F.nonce_len) 0 (chunk_count F.chunk_size (size_after F (Write offset text))))) accepted
         ∙ sum_one (touched F (Write offset text)) (λ _. F.nonce_len) (chunk_count F.chunk_size (size_after F (Write offset text))) count touches ∙ nonce_len
 
-    pub changes_is : 1 + cond {A = ℕ} (nat_eq (max h.file_size (offset + length text)) h.file_size) 0 1 ≤ changes_by F (Write offset text)
+    pub changes_is : 1 + cond {A = ℕ} (nat_eq (max h.file_size (offset + length text)) h.file_size) 0 1 ≤ changes_by no_limit F (Write offset text)
     changes_is =
-        let is : changes_by F (Write offset text)
+        let is : changes_by no_limit F (Write offset text)
         ≡ sum_where (touched F (Write offset text)) (λ _. 1) 0 (chunk_count F.chunk_size (size_after F (Write offset text)))
         + cond {A = ℕ} (nat_eq (size_after F (Write offset text)) F.size) 0 1 + cond {A = ℕ} (nat_lt (size_after F (Write offset text)) F.size) 1 0 =
         ap (λ (t : Bool). cond {A = ℕ} t 0
@@ -130,13 +130,13 @@ module _ (C : Cipher) (lawful : IsLawful C) (key b : List ℕ) (h : Header) (F :
       omega (arith, layout_one F.nonce_len F.chunk_size (max F.size (offset + length text)) (omega (arith, chunk_size, held.is_file.says.fields.least)) (omega (arith, some)) (omega (arith, size, chunk_size)), size, nonce_len)
 
   -- the storage afterwards
-  pub stored_bytes : (kept nonce : List ℕ) → length nonce ≡ C.nonce_len → apply F (Write offset text) ≡ (Wrote (length text), stored F offset text kept)
-      → bytes_after C key F (Write offset text) nonce b
+  pub stored_bytes : (kept nonce : List ℕ) → length nonce ≡ C.nonce_len → apply no_limit F (Write offset text) ≡ (Exactly (Wrote (length text)), stored F offset text kept)
+      → bytes_after no_limit C key F (Write offset text) nonce b
       ≡ laid C key (with_size h (max h.file_size (offset + length text))) nonce (message (max h.file_size (offset + length text)) offset text kept)
   stored_bytes kept nonce len is =
-      ap (λ (t : Bool). cond {A = List ℕ} t b (cond {A = List ℕ} (is_change F (Write offset text)) (image C key b (apply F (Write offset text)).1 (touched F (Write offset text)) nonce) b)) (ap (λ (p : Reply × File). is_refused p.0) is)
-      ∙ ap (λ (t : Bool). cond {A = List ℕ} t (image C key b (apply F (Write offset text)).1 (touched F (Write offset text)) nonce) b) (change_is F offset text some)
-      ∙ ap (λ (p : Reply × File). image C key b p.1 (touched F (Write offset text)) nonce) is
+      ap (λ (t : Bool). cond {A = List ℕ} t b (cond {A = List ℕ} (is_change F (Write offset text)) (image C key b (apply no_limit F (Write offset text)).1 (touched F (Write offset text)) nonce) b)) (ap (λ (p : Due × File). is_refused p.0) is)
+      ∙ ap (λ (t : Bool). cond {A = List ℕ} t (image C key b (apply no_limit F (Write offset text)).1 (touched F (Write offset text)) nonce) b) (change_is F offset text some)
+      ∙ ap (λ (p : Due × File). image C key b p.1 (touched F (Write offset text)) nonce) is
       ∙ ap (λ (t : Bool). sealed_header C key (header_of C (stored F offset text kept))
       ++ (cond {A = List ℕ} t (sealed C (C.chunk_key key F.id) F.id 0 (take C.nonce_len nonce) (message (max F.size (offset + length text)) offset text kept)) (record_at C.nonce_len F.chunk_size (max F.size (offset + length text)) 0 b) ++ [])) touches
       ∙ ap (λ (x : List ℕ). sealed_header C key (header_of C (stored F offset text kept)) ++ x) (append-nil (sealed C (C.chunk_key key F.id) F.id 0 (take C.nonce_len nonce) (message (max F.size (offset + length text)) offset text kept)))

@@ -3,7 +3,8 @@ use Rattle.std.proofs.Common.{◌≡◌, inl, inr, true, ℕ, ◌+◌, ◌<◌, 
 use Rattle.std.proofs.lemmas.Bool.{cases_lt}
 use Rattle.raf.specs.Cipher.{Cipher, IsLawful}
 use Rattle.raf.specs.File.{File}
-use Rattle.raf.specs.Concern.{needed}
+use Rattle.raf.specs.Due.Due.{Exactly}
+use Rattle.raf.specs.Concern.{no_limit, needed}
 use Rattle.raf.specs.Apply.{apply}
 use Rattle.raf.specs.Stepped.{Holds, stored}
 use Rattle.raf.specs.declared.format.header.Header.{Header}
@@ -23,7 +24,7 @@ module _ (C : Cipher) (lawful : IsLawful C) (key b : List ℕ) (h : Header) (F :
   chunk_size : F.chunk_size ≡ h.chunk_size
   chunk_size = ap (λ (f : File). f.chunk_size) held.file
 
-  pub held_past : h.chunk_size < offset + length text → apply F (Write offset text) ≡ (Refused Unbuilt, F)
+  pub held_past : h.chunk_size < offset + length text → apply no_limit F (Write offset text) ≡ (Exactly (Refused Unbuilt), F)
   held_past past = write_past F offset text some (omega (arith, past, chunk_size))
 
   module _ (inside : offset + length text ≤ h.chunk_size) (one : h.file_size ≤ h.chunk_size) where
@@ -42,7 +43,7 @@ module _ (C : Cipher) (lawful : IsLawful C) (key b : List ℕ) (h : Header) (F :
     small : F.nonce_len ≤ 32
     small = omega (arith, nonce_len, lawful.nonce_most)
 
-    pub held_over : (0 < h.file_size → (offset ≡ 0) × (h.file_size ≤ length text)) → apply F (Write offset text) ≡ (Wrote (length text), stored F offset text [])
+    pub held_over : (0 < h.file_size → (offset ≡ 0) × (h.file_size ≤ length text)) → apply no_limit F (Write offset text) ≡ (Exactly (Wrote (length text)), stored F offset text [])
     held_over over = elim (cases_lt 0 h.file_size) [
       | inl had ↦
           write_over F offset text some inside_F one_F least most small _ (chunks_one C key b h F held.file held.is_file.says.fields.least had one) (over had).0 (omega (arith, size, (over had).1))
@@ -50,11 +51,11 @@ module _ (C : Cipher) (lawful : IsLawful C) (key b : List ℕ) (h : Header) (F :
           write_empty F offset text some inside_F one_F least most small (chunks_none C key b h F held.file held.is_file.says.fields.least (omega (arith, none)))
     ]
 
-    pub held_there : (m : List ℕ) → F.chunks ≡ Some m ∷ [] → apply F (Write offset text) ≡ (Wrote (length text), stored F offset text m)
+    pub held_there : (m : List ℕ) → F.chunks ≡ Some m ∷ [] → apply no_limit F (Write offset text) ≡ (Exactly (Wrote (length text)), stored F offset text m)
     held_there m is = write_there F offset text some inside_F one_F least most small m is
 
     pub held_needs : 0 < h.file_size → (offset ≡ 0 → length text < h.file_size) → needed F (Write offset text) 0 ≡ true
     held_needs had stays = write_needs F offset text some inside_F one_F least most small (omega (arith, size, had)) (λ first. omega (arith, size, stays first))
 
-    pub held_missing : 0 < h.file_size → (offset ≡ 0 → length text < h.file_size) → F.chunks ≡ None ∷ [] → apply F (Write offset text) ≡ (Refused AuthenticationFailed, F)
+    pub held_missing : 0 < h.file_size → (offset ≡ 0 → length text < h.file_size) → F.chunks ≡ None ∷ [] → apply no_limit F (Write offset text) ≡ (Exactly (Refused AuthenticationFailed), F)
     held_missing had stays is = write_missing F offset text some inside_F one_F least most small is (omega (arith, size, had)) (λ first. omega (arith, size, stays first))

@@ -9,6 +9,8 @@ pub mod Chunks
 pub mod Laid
 pub mod Moves
 pub mod Sums
+pub mod Dues
+pub mod Valid
 pub mod Wrote
 pub mod ReadBytes
 pub mod Still
@@ -21,3 +23,4 @@ pub mod Runs
 pub mod Opened
 pub mod Progress
 pub mod Outcomes
+pub mod Plays

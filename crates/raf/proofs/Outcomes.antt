@@ -5,6 +5,7 @@ use Rattle.std.specs.Prelude.{◌⊎◌}
 use Rattle.raf.specs.Source.{Takes}
 use Rattle.raf.specs.Cipher.{Cipher, IsLawful}
 use Rattle.raf.specs.File.{File, IsFile, file_layout}
+use Rattle.raf.specs.Concern.{no_limit}
 use Rattle.raf.specs.Apply.{longest}
 use Rattle.raf.specs.Outside.{Outside, Kept, Quiet, Moved}
 use Rattle.raf.specs.Session.{WhyNotOpened, WhyRefused, OpeningFault, Refusal, Whole, Faulted, CutShort, AllShaped, Meets, begun, read_total}
@@ -61,7 +62,7 @@ refused_meets C key commands before after (Err x) e is why = record {
 }
 
 whole_from : (C : Cipher) (key : List ℕ) (F : File) (b : List ℕ) (commands : List Command) (before mid after : Outside) (rs : List Reply) → Kept before mid → Quiet before mid
-    → Whole C key F b commands mid after rs → Whole C key F b commands before after rs
+    → Whole no_limit C key F b commands mid after rs → Whole no_limit C key F b commands before after rs
 whole_from C key F b commands before mid after rs kept quiet w = record {
   nonces = w.nonces;
   course = w.course;
@@ -71,7 +72,7 @@ whole_from C key F b commands before mid after rs kept quiet w = record {
 }
 
 faulted_from : (C : Cipher) (key : List ℕ) (F : File) (b : List ℕ) (commands : List Command) (before mid after : Outside) (rs : List Reply) → Kept before mid → Quiet before mid
-    → Faulted C key F b commands mid after rs → Faulted C key F b commands before after rs
+    → Faulted no_limit C key F b commands mid after rs → Faulted no_limit C key F b commands before after rs
 faulted_from C key F b commands before mid after rs kept quiet f = record {
   done = f.done;
   command = f.command;
@@ -107,7 +108,7 @@ cut_from chunk_size size commands before mid after rs quiet f = record {
   may = f.may;
 }
 
-longest_first : (F : File) (commands : List Command) → file_layout F ≤ longest F commands
+longest_first : (F : File) (commands : List Command) → file_layout F ≤ longest no_limit F commands
 longest_first F [] = omega arith
 longest_first F (c ∷ commands) = omega arith
 
@@ -130,7 +131,7 @@ answered_meets C lawful key h commands before mid after rs fits least most one i
         file = F;
         opens = opens_held C lawful key b h F held;
         one_chunk = one;
-        run = elim ran.run as (λ _. Whole C key F b commands before after rs ⊎ Faulted C key F b commands before after rs) [
+        run = elim ran.run as (λ _. Whole no_limit C key F b commands before after rs ⊎ Faulted no_limit C key F b commands before after rs) [
           | inl w ↦ inl (whole_from C key F b commands before mid after rs kept quiet w)
           | inr f ↦ inr (faulted_from C key F b commands before mid after rs kept quiet f)
         ];

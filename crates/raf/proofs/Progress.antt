@@ -4,7 +4,9 @@ use Rattle.std.proofs.lemmas.List.{take_all, take_at}
 use Rattle.std.proofs.Math.Nat.{mul-add}
 use Rattle.raf.specs.Cipher.{Cipher, IsLawful}
 use Rattle.raf.specs.File.{File, file_layout}
-use Rattle.raf.specs.Apply.{apply, replies_of, file_after, longest}
+use Rattle.raf.specs.Due.{AllAnswer}
+use Rattle.raf.specs.Concern.{no_limit}
+use Rattle.raf.specs.Apply.{apply, due_to, file_after, longest}
 use Rattle.raf.specs.Image.{traced, bytes_after, asked_by, asked_in, changes_by, changes_in, traffic_by, traffic_in}
 use Rattle.raf.specs.Outside.{Outside, Caused, Moved}
 use Rattle.raf.specs.Session.{MayFail, Shaped, shaped_size, begun}
@@ -18,12 +20,13 @@ use Rattle.raf.specs.declared.command.Reply.TheVariants.{Refused}
 use Rattle.raf.proofs.Opened.{opens_held}
 use Rattle.raf.proofs.Moves.{moved_same, moved_less, moved_then, quiet_same, quiet_then, caused_later, takes_none, takes_then}
 use Rattle.raf.proofs.Still.{moved_loose}
-use Rattle.raf.proofs.Runs.{replies-push, after-push, asked-push, changes-push, traffic-push, longest-push, longest_last, traced-push, authentic-push, shaped-push, shaped_end-push}
+use Rattle.raf.proofs.Dues.{length-dues, answer-push}
+use Rattle.raf.proofs.Runs.{due-push, after-push, asked-push, changes-push, traffic-push, longest-push, longest_last, traced-push, authentic-push, shaped-push, shaped_end-push}
 
 pub progress_none : (C : Cipher) (key : List ℕ) (h : Header) (old : Outside) (rs : List Reply) → rs ≡ [] → Progress C key h h [] rs old old
 progress_none C key h old rs none = subst (λ (l : List Reply). Progress C key h h [] l old old) (sym none) (record {
   told = λ F b told held. record {
-    played = refl;
+    played = tt;
     nonces = [];
     drawn = refl;
     taken = takes_none old.left;
@@ -46,37 +49,37 @@ asked_more n rs r =
     let is : n * length (rs ++ r ∷ []) ≡ n * length rs + n = ap (λ (k : ℕ). n * k) (length-append rs (r ∷ [])) ∙ mul-add n (length rs) 1 ∙ ap (λ (k : ℕ). n * length rs + k) one in
     omega (arith, is)
 
-length-replies : (F : File) (commands : List Command) → length (replies_of F commands) ≡ length commands
-length-replies F [] = refl
-length-replies F (c ∷ commands) = omega (arith, length-replies (apply F c).1 commands)
+length-due : (F : File) (commands : List Command) → length (due_to no_limit F commands) ≡ length commands
+length-due F [] = refl
+length-due F (c ∷ commands) = omega (arith, length-due (apply no_limit F c).1 commands)
 
 -- the bounds of one command more
 moved_more : (F : File) (xs : List Command) (c : Command) (old mid new : Outside)
-    → Moved old mid (longest F xs) (traffic_in F xs) (asked_in F xs) (changes_in F xs)
-    → Moved mid new (max (file_layout (file_after F xs)) (file_layout (apply (file_after F xs) c).1)) (traffic_by (file_after F xs) c) (asked_by (file_after F xs) c) (changes_by (file_after F xs) c)
-    → Moved old new (longest F (xs ++ c ∷ [])) (traffic_in F (xs ++ c ∷ [])) (asked_in F (xs ++ c ∷ [])) (changes_in F (xs ++ c ∷ []))
+    → Moved old mid (longest no_limit F xs) (traffic_in no_limit F xs) (asked_in no_limit F xs) (changes_in no_limit F xs)
+    → Moved mid new (max (file_layout (file_after no_limit F xs)) (file_layout (apply no_limit (file_after no_limit F xs) c).1)) (traffic_by no_limit (file_after no_limit F xs) c) (asked_by no_limit (file_after no_limit F xs) c) (changes_by no_limit (file_after no_limit F xs) c)
+    → Moved old new (longest no_limit F (xs ++ c ∷ [])) (traffic_in no_limit F (xs ++ c ∷ [])) (asked_in no_limit F (xs ++ c ∷ [])) (changes_in no_limit F (xs ++ c ∷ []))
 moved_more F xs c old mid new m n =
-    moved_less old new _ _ _ _ (longest F (xs ++ c ∷ [])) (traffic_in F (xs ++ c ∷ [])) (asked_in F (xs ++ c ∷ [])) (changes_in F (xs ++ c ∷ []))
-    (moved_then old mid new (longest F xs) (traffic_in F xs) (asked_in F xs) (changes_in F xs) _ _ _ _ m n)
-    (omega (arith, longest-push F xs c, longest_last F xs)) (omega (arith, traffic-push F xs c)) (omega (arith, asked-push F xs c)) (omega (arith, changes-push F xs c))
+    moved_less old new _ _ _ _ (longest no_limit F (xs ++ c ∷ [])) (traffic_in no_limit F (xs ++ c ∷ [])) (asked_in no_limit F (xs ++ c ∷ [])) (changes_in no_limit F (xs ++ c ∷ []))
+    (moved_then old mid new (longest no_limit F xs) (traffic_in no_limit F xs) (asked_in no_limit F xs) (changes_in no_limit F xs) _ _ _ _ m n)
+    (omega (arith, longest-push no_limit F xs c, longest_last no_limit F xs)) (omega (arith, traffic-push no_limit F xs c)) (omega (arith, asked-push no_limit F xs c)) (omega (arith, changes-push no_limit F xs c))
 
 so_far_more : (C : Cipher) (key : List ℕ) (F : File) (b : List ℕ) (xs : List Command) (rs : List Reply) (h k k' : Header) (old mid new : Outside) (c : Command) (r : Reply)
     → SoFar C key F b xs rs k old mid → Stepped C key k k' mid new c r → is_fault r ≡ false → SoFar C key F b (xs ++ c ∷ []) (rs ++ r ∷ []) k' old new
 so_far_more C key F b xs rs h k k' old mid new c r p s fine =
-    let G = file_after F xs in
-    let d = s.answered G (traced C key F xs p.nonces b) p.tells p.holds fine in
-    let bounded = s.bounded G (traced C key F xs p.nonces b) p.tells p.holds in
-    let bytes : traced C key F (xs ++ c ∷ []) (p.nonces ++ d.nonces) b ≡ bytes_after C key G c d.nonces (traced C key F xs p.nonces b) =
-    traced-push C key F xs c p.nonces d.nonces b p.drawn d.drawn in
+    let G = file_after no_limit F xs in
+    let d = s.answered G (traced no_limit C key F xs p.nonces b) p.tells p.holds fine in
+    let bounded = s.bounded G (traced no_limit C key F xs p.nonces b) p.tells p.holds in
+    let bytes : traced no_limit C key F (xs ++ c ∷ []) (p.nonces ++ d.nonces) b ≡ bytes_after no_limit C key G c d.nonces (traced no_limit C key F xs p.nonces b) =
+    traced-push no_limit C key F xs c p.nonces d.nonces b p.drawn d.drawn in
     record {
-      played = ap (λ (l : List Reply). l ++ r ∷ []) p.played ∙ ap (λ (x : Reply). replies_of F xs ++ x ∷ []) d.due ∙ sym (replies-push F xs c);
+      played = subst (AllAnswer (rs ++ r ∷ [])) (sym (due-push no_limit F xs c)) (answer-push rs (due_to no_limit F xs) r (apply no_limit G c).0 p.played d.due);
       nonces = p.nonces ++ d.nonces;
-      drawn = length-append p.nonces d.nonces ∙ ap (λ (n : ℕ). n + length d.nonces) p.drawn ∙ ap (λ (n : ℕ). asked_in F xs + n) d.drawn ∙ sym (asked-push F xs c);
+      drawn = length-append p.nonces d.nonces ∙ ap (λ (n : ℕ). n + length d.nonces) p.drawn ∙ ap (λ (n : ℕ). asked_in no_limit F xs + n) d.drawn ∙ sym (asked-push no_limit F xs c);
       taken = takes_then old.left mid.left new.left p.nonces d.nonces p.taken d.taken;
       tells = d.tells ∙ ap (λ (l : List ℕ). Some l) (sym bytes);
-      holds = subst (λ (l : List ℕ). Holds C key l k' (file_after F (xs ++ c ∷ []))) (sym bytes)
-          (subst (λ (X : File). Holds C key (bytes_after C key G c d.nonces (traced C key F xs p.nonces b)) k' X) (sym (after-push F xs c)) d.holds);
-      authentic = authentic-push C key F xs c p.nonces d.nonces b p.drawn p.authentic d.authentic;
+      holds = subst (λ (l : List ℕ). Holds C key l k' (file_after no_limit F (xs ++ c ∷ []))) (sym bytes)
+          (subst (λ (X : File). Holds C key (bytes_after no_limit C key G c d.nonces (traced no_limit C key F xs p.nonces b)) k' X) (sym (after-push no_limit F xs c)) d.holds);
+      authentic = authentic-push no_limit C key F xs c p.nonces d.nonces b p.drawn p.authentic d.authentic;
       moved = moved_more F xs c old mid new p.moved bounded.moved;
       strays = bounded.strays ∙ p.strays;
     }
@@ -96,8 +99,8 @@ progress_more C key h k k' xs ys rs old mid new c r p s fine more =
     })
 
 -- the commands that were begun, where all were and where a fault came
-begun_all : (commands : List Command) (F : File) (rs : List Reply) → rs ≡ replies_of F commands → begun commands rs ≡ commands
-begun_all commands F rs is = take_all (length rs) commands (omega (arith, ap length is, length-replies F commands))
+begun_all : (commands : List Command) (F : File) (rs : List Reply) → AllAnswer rs (due_to no_limit F commands) → begun commands rs ≡ commands
+begun_all commands F rs all = take_all (length rs) commands (omega (arith, length-dues rs (due_to no_limit F commands) all, length-due F commands))
 
 begun_cut : (xs : List Command) (c : Command) (rest : List Command) (rs : List Reply) (r : Reply) → length rs ≡ length xs → begun (xs ++ c ∷ rest) (rs ++ r ∷ []) ≡ xs ++ c ∷ []
 begun_cut xs c rest rs r len =
@@ -117,12 +120,12 @@ ended_whole C lawful key h k commands xs rs old now all progress = go (subst (λ
           record {
             run = inl (record {
               nonces = t.nonces;
-              course = record { played = t.played; drawn = t.drawn; opens = opens_held C lawful key (traced C key F commands t.nonces b) k (file_after F commands) t.holds; authentic = t.authentic };
+              course = record { played = t.played; drawn = t.drawn; opens = opens_held C lawful key (traced no_limit C key F commands t.nonces b) k (file_after no_limit F commands) t.holds; authentic = t.authentic };
               bytes = t.tells;
               left = t.taken;
               quiet = p.quiet;
             });
-            moved = subst (λ (l : List Command). Moved old now (longest F l) (traffic_in F l) (asked_in F l) (changes_in F l)) (sym same) t.moved;
+            moved = subst (λ (l : List Command). Moved old now (longest no_limit F l) (traffic_in no_limit F l) (asked_in no_limit F l) (changes_in no_limit F l)) (sym same) t.moved;
             strays = t.strays;
           };
       numbers = inl (p.shaped, p.quiet);
@@ -139,9 +142,9 @@ ended_cut C lawful key h k k' commands xs c rest rs r old mid new split len p s 
     record {
       told = λ F b told held.
           let t = p.told F b told held in
-          let G = file_after F xs in
-          let cut = s.cut f.kind f.is fails G (traced C key F xs t.nonces b) t.tells t.holds in
-          let bounded = s.bounded G (traced C key F xs t.nonces b) t.tells t.holds in
+          let G = file_after no_limit F xs in
+          let cut = s.cut f.kind f.is fails G (traced no_limit C key F xs t.nonces b) t.tells t.holds in
+          let bounded = s.bounded G (traced no_limit C key F xs t.nonces b) t.tells t.holds in
           let same : begun commands (rs ++ r ∷ []) ≡ xs ++ c ∷ [] = ap (λ (l : List Command). begun l (rs ++ r ∷ [])) split ∙ begun_cut xs c rest rs r len in
           record {
             run = inr (record {
@@ -153,7 +156,7 @@ ended_cut C lawful key h k k' commands xs c rest rs r old mid new split len p s 
               kind = f.kind;
               last = last;
               nonces = t.nonces;
-              course = record { played = t.played; drawn = t.drawn; opens = opens_held C lawful key (traced C key F xs t.nonces b) k (file_after F xs) t.holds; authentic = t.authentic };
+              course = record { played = t.played; drawn = t.drawn; opens = opens_held C lawful key (traced no_limit C key F xs t.nonces b) k (file_after no_limit F xs) t.holds; authentic = t.authentic };
               cause = cause;
               due = cut.due;
               middle = mid.left;
@@ -163,7 +166,7 @@ ended_cut C lawful key h k k' commands xs c rest rs r old mid new split len p s 
               tells = cut.tells;
               spares = cut.spares;
             });
-            moved = subst (λ (l : List Command). Moved old new (longest F l) (traffic_in F l) (asked_in F l) (changes_in F l)) (sym same) (moved_more F xs c old mid new t.moved bounded.moved);
+            moved = subst (λ (l : List Command). Moved old new (longest no_limit F l) (traffic_in no_limit F l) (asked_in no_limit F l) (changes_in no_limit F l)) (sym same) (moved_more F xs c old mid new t.moved bounded.moved);
             strays = bounded.strays ∙ t.strays;
           };
       numbers = inr (record {

@@ -4,14 +4,15 @@ use Rattle.std.specs.Prelude.{nat_lt, unwrap_or}
 use Rattle.std.proofs.lemmas.List.{take-take, drop-take, drop-drop, append-nil}
 use Rattle.std.proofs.lemmas.Bool.Decides.{nat_tests}
 use Rattle.raf.specs.File.{File}
-use Rattle.raf.specs.Concern.{needed, none_missing}
+use Rattle.raf.specs.Due.{Due, is_barred}
+use Rattle.raf.specs.Due.Due.{Exactly}
+use Rattle.raf.specs.Concern.{no_limit, needed, none_missing}
 use Rattle.raf.specs.Apply.{apply, bytes_between}
-use Rattle.raf.specs.Session.{is_barred}
 use Rattle.raf.specs.declared.command.Command.TheVariants.{Read}
-use Rattle.raf.specs.declared.command.Reply.{Reply}
 use Rattle.raf.specs.declared.command.Reply.TheVariants.{Bytes, Refused}
 use Rattle.raf.specs.declared.errors.ErrorKind.TheVariants.{AuthenticationFailed}
 use Rattle.raf.proofs.Chunks.{none_asked}
+use Rattle.raf.proofs.Valid.{fitting_is}
 
 pub no_bytes : (chunk_size from end index : ℕ) (chunks : List (Option (List ℕ))) → end ≤ from → bytes_between chunk_size from end index chunks ≡ []
 no_bytes chunk_size from end index [] le = refl
@@ -21,20 +22,20 @@ no_bytes chunk_size from end index (c ∷ chunks) le =
     ∙ no_bytes chunk_size from end (index + 1) chunks le
 
 -- a read of no position below the size
-pub read_nothing : (F : File) (offset len : ℕ) → min (offset + len) F.size ≤ offset → apply F (Read offset len) ≡ (Bytes [], F)
+pub read_nothing : (F : File) (offset len : ℕ) → min (offset + len) F.size ≤ offset → apply no_limit F (Read offset len) ≡ (Exactly (Bytes []), F)
 read_nothing F offset len le =
     let stop = min (offset + len) F.size in
     let off : nat_lt offset stop ≡ false = grind (arith, nat_tests) in
     let none : none_missing (needed F (Read offset len)) 0 F.chunks ≡ true =
     none_asked (needed F (Read offset len)) 0 F.chunks (λ i. ap (λ (t : Bool). t && nat_lt (i * F.chunk_size) stop && nat_lt offset (i * F.chunk_size + F.chunk_size)) off) in
-    ap (λ (t : Bool). cond {A = Reply × File} t (Bytes (bytes_between F.chunk_size offset stop 0 F.chunks), F) (Refused AuthenticationFailed, F)) none
-    ∙ ap (λ (l : List ℕ). (Bytes l, F)) (no_bytes F.chunk_size offset stop 0 F.chunks le)
+    fitting_is no_limit F (Read offset len) refl refl ∙ ap (λ (t : Bool). cond {A = Due × File} t (Exactly (Bytes (bytes_between F.chunk_size offset stop 0 F.chunks)), F) (Exactly (Refused AuthenticationFailed), F)) none
+    ∙ ap (λ (l : List ℕ). (Exactly (Bytes l), F)) (no_bytes F.chunk_size offset stop 0 F.chunks le)
 
 -- no number bars a read
-pub read_free : (F : File) (offset len : ℕ) → is_barred (apply F (Read offset len)).0 ≡ false
-read_free F offset len = go (none_missing (needed F (Read offset len)) 0 F.chunks)
+pub read_free : (F : File) (offset len : ℕ) → is_barred (apply no_limit F (Read offset len)).0 ≡ false
+read_free F offset len = ap (λ (p : Due × File). is_barred p.0) (fitting_is no_limit F (Read offset len) refl refl) ∙ go (none_missing (needed F (Read offset len)) 0 F.chunks)
   where
-    go : (t : Bool) → is_barred (cond {A = Reply × File} t (Bytes (bytes_between F.chunk_size offset (min (offset + len) F.size) 0 F.chunks), F) (Refused AuthenticationFailed, F)).0 ≡ false
+    go : (t : Bool) → is_barred (cond {A = Due × File} t (Exactly (Bytes (bytes_between F.chunk_size offset (min (offset + len) F.size) 0 F.chunks)), F) (Exactly (Refused AuthenticationFailed), F)).0 ≡ false
     go true = refl
     go false = refl
 
@@ -46,13 +47,13 @@ module _ (F : File) (offset len : ℕ) (some : offset < min (offset + len) F.siz
       met : nat_lt offset (min (offset + len) F.size) && nat_lt (0 * F.chunk_size) (min (offset + len) F.size) && nat_lt offset (0 * F.chunk_size + F.chunk_size) ≡ true
       met = grind (arith, nat_tests)
 
-  pub read_missing : F.chunks ≡ None ∷ [] → apply F (Read offset len) ≡ (Refused AuthenticationFailed, F)
+  pub read_missing : F.chunks ≡ None ∷ [] → apply no_limit F (Read offset len) ≡ (Exactly (Refused AuthenticationFailed), F)
   read_missing is =
       let missed : none_missing (needed F (Read offset len)) 0 F.chunks ≡ false =
       ap (none_missing (needed F (Read offset len)) 0) is ∙ ap (λ (t : Bool). (not t || false) && true) read_needs in
-      ap (λ (t : Bool). cond {A = Reply × File} t (Bytes (bytes_between F.chunk_size offset (min (offset + len) F.size) 0 F.chunks), F) (Refused AuthenticationFailed, F)) missed
+      fitting_is no_limit F (Read offset len) refl refl ∙ ap (λ (t : Bool). cond {A = Due × File} t (Exactly (Bytes (bytes_between F.chunk_size offset (min (offset + len) F.size) 0 F.chunks)), F) (Exactly (Refused AuthenticationFailed), F)) missed
 
-  pub read_there : (m : List ℕ) → F.chunks ≡ Some m ∷ [] → apply F (Read offset len) ≡ (Bytes (take (min (offset + len) F.size - offset) (drop offset m)), F)
+  pub read_there : (m : List ℕ) → F.chunks ≡ Some m ∷ [] → apply no_limit F (Read offset len) ≡ (Exactly (Bytes (take (min (offset + len) F.size - offset) (drop offset m))), F)
   read_there m is =
       let stop = min (offset + len) F.size in
       let found : none_missing (needed F (Read offset len)) 0 F.chunks ≡ true =
@@ -64,8 +65,8 @@ module _ (F : File) (offset len : ℕ) (some : offset < min (offset + len) F.siz
       ∙ append-nil (take (stop - max offset (0 * F.chunk_size)) (drop (offset - 0 * F.chunk_size) m))
       ∙ ap (λ (n : ℕ). take (stop - n) (drop (offset - 0 * F.chunk_size) m)) from
       ∙ ap (λ (n : ℕ). take (stop - offset) (drop n m)) at in
-      ap (λ (t : Bool). cond {A = Reply × File} t (Bytes (bytes_between F.chunk_size offset stop 0 F.chunks), F) (Refused AuthenticationFailed, F)) found
-      ∙ ap (λ (l : List ℕ). (Bytes l, F)) bytes
+      fitting_is no_limit F (Read offset len) refl refl ∙ ap (λ (t : Bool). cond {A = Due × File} t (Exactly (Bytes (bytes_between F.chunk_size offset stop 0 F.chunks)), F) (Exactly (Refused AuthenticationFailed), F)) found
+      ∙ ap (λ (l : List ℕ). (Exactly (Bytes l), F)) bytes
 
 -- a piece of the message in the buffer
 pub piece : (nonce_len size from n : ℕ) (buf : List ℕ) → from + n ≤ size → take n (drop from (take size (drop nonce_len buf))) ≡ take n (drop (nonce_len + from) buf)

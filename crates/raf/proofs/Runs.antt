@@ -1,9 +1,10 @@
 -- A run of commands goes on by one.
-use Rattle.std.proofs.Common.{◌≡◌, ℕ, ◌+◌, ◌<◌, ◌≤◌, max, List, [], ◌∷◌, ◌++◌, length, take, drop, get_or, map, refl, sym, ◌∙◌, ap, subst, arith, length-drop, take-append-drop}
+use Rattle.std.proofs.Common.{◌≡◌, ℕ, ◌+◌, ◌<◌, ◌≤◌, max, List, [], ◌∷◌, ◌++◌, length, take, drop, get_or, map, Option, refl, sym, ◌∙◌, ap, subst, arith, length-drop, take-append-drop}
 use Rattle.std.proofs.lemmas.List.{drop_more, take_more, take_all, take-append-le, drop-append-le}
 use Rattle.raf.specs.Cipher.{Cipher}
 use Rattle.raf.specs.File.{File, file_layout}
-use Rattle.raf.specs.Apply.{apply, replies_of, file_after, longest}
+use Rattle.raf.specs.Due.{Due}
+use Rattle.raf.specs.Apply.{apply, due_to, file_after, longest}
 use Rattle.raf.specs.Image.{traced, bytes_after, asked_by, asked_in, changes_by, changes_in, traffic_by, traffic_in}
 use Rattle.raf.specs.Session.{Authentic, AllAuthentic, Shaped, AllShaped, shaped_size, read_total}
 use Rattle.raf.specs.Stepped.{room_for}
@@ -11,60 +12,62 @@ use Rattle.raf.specs.Ended.{shaped_end}
 use Rattle.raf.specs.declared.command.Command.{Command}
 use Rattle.raf.specs.declared.command.Reply.{Reply}
 
-pub replies-push : (F : File) (xs : List Command) (c : Command) → replies_of F (xs ++ c ∷ []) ≡ replies_of F xs ++ (apply (file_after F xs) c).0 ∷ []
-replies-push F [] c = refl
-replies-push F (x ∷ xs) c = ap (λ (l : List Reply). (apply F x).0 ∷ l) (replies-push (apply F x).1 xs c)
+-- whatever the limit
+module _ (limit : Option ℕ) where
+  pub due-push : (F : File) (xs : List Command) (c : Command) → due_to limit F (xs ++ c ∷ []) ≡ due_to limit F xs ++ (apply limit (file_after limit F xs) c).0 ∷ []
+  due-push F [] c = refl
+  due-push F (x ∷ xs) c = ap (λ (l : List Due). (apply limit F x).0 ∷ l) (due-push (apply limit F x).1 xs c)
 
-pub after-push : (F : File) (xs : List Command) (c : Command) → file_after F (xs ++ c ∷ []) ≡ (apply (file_after F xs) c).1
-after-push F [] c = refl
-after-push F (x ∷ xs) c = after-push (apply F x).1 xs c
+  pub after-push : (F : File) (xs : List Command) (c : Command) → file_after limit F (xs ++ c ∷ []) ≡ (apply limit (file_after limit F xs) c).1
+  after-push F [] c = refl
+  after-push F (x ∷ xs) c = after-push (apply limit F x).1 xs c
 
-pub asked-push : (F : File) (xs : List Command) (c : Command) → asked_in F (xs ++ c ∷ []) ≡ asked_in F xs + asked_by (file_after F xs) c
-asked-push F [] c = omega arith
-asked-push F (x ∷ xs) c = omega (arith, asked-push (apply F x).1 xs c)
+  pub asked-push : (F : File) (xs : List Command) (c : Command) → asked_in limit F (xs ++ c ∷ []) ≡ asked_in limit F xs + asked_by limit (file_after limit F xs) c
+  asked-push F [] c = omega arith
+  asked-push F (x ∷ xs) c = omega (arith, asked-push (apply limit F x).1 xs c)
 
-pub changes-push : (F : File) (xs : List Command) (c : Command) → changes_in F (xs ++ c ∷ []) ≡ changes_in F xs + changes_by (file_after F xs) c
-changes-push F [] c = omega arith
-changes-push F (x ∷ xs) c = omega (arith, changes-push (apply F x).1 xs c)
+  pub changes-push : (F : File) (xs : List Command) (c : Command) → changes_in limit F (xs ++ c ∷ []) ≡ changes_in limit F xs + changes_by limit (file_after limit F xs) c
+  changes-push F [] c = omega arith
+  changes-push F (x ∷ xs) c = omega (arith, changes-push (apply limit F x).1 xs c)
 
-pub traffic-push : (F : File) (xs : List Command) (c : Command) → traffic_in F (xs ++ c ∷ []) ≡ traffic_in F xs + traffic_by (file_after F xs) c
-traffic-push F [] c = omega arith
-traffic-push F (x ∷ xs) c = omega (arith, traffic-push (apply F x).1 xs c)
+  pub traffic-push : (F : File) (xs : List Command) (c : Command) → traffic_in limit F (xs ++ c ∷ []) ≡ traffic_in limit F xs + traffic_by limit (file_after limit F xs) c
+  traffic-push F [] c = omega arith
+  traffic-push F (x ∷ xs) c = omega (arith, traffic-push (apply limit F x).1 xs c)
 
-pub longest-push : (F : File) (xs : List Command) (c : Command) → longest F (xs ++ c ∷ []) ≡ max (longest F xs) (file_layout (apply (file_after F xs) c).1)
-longest-push F [] c = refl
-longest-push F (x ∷ xs) c = omega (arith, longest-push (apply F x).1 xs c)
+  pub longest-push : (F : File) (xs : List Command) (c : Command) → longest limit F (xs ++ c ∷ []) ≡ max (longest limit F xs) (file_layout (apply limit (file_after limit F xs) c).1)
+  longest-push F [] c = refl
+  longest-push F (x ∷ xs) c = omega (arith, longest-push (apply limit F x).1 xs c)
 
-pub longest_last : (F : File) (xs : List Command) → file_layout (file_after F xs) ≤ longest F xs
-longest_last F [] = omega arith
-longest_last F (x ∷ xs) = omega (arith, longest_last (apply F x).1 xs)
+  pub longest_last : (F : File) (xs : List Command) → file_layout (file_after limit F xs) ≤ longest limit F xs
+  longest_last F [] = omega arith
+  longest_last F (x ∷ xs) = omega (arith, longest_last (apply limit F x).1 xs)
 
--- nonces behind those that are taken
-pub traced-extra : (C : Cipher) (key : List ℕ) (F : File) (xs : List Command) (ns d b : List ℕ) → length ns ≡ asked_in F xs → traced C key F xs (ns ++ d) b ≡ traced C key F xs ns b
-traced-extra C key F [] ns d b len = refl
-traced-extra C key F (x ∷ xs) ns d b len =
-    ap (λ (l : List ℕ). traced C key (apply F x).1 xs l (bytes_after C key F x (take (asked_by F x) (ns ++ d)) b)) (drop-append-le (asked_by F x) ns d (omega arith))
-    ∙ ap (λ (l : List ℕ). traced C key (apply F x).1 xs (drop (asked_by F x) ns ++ d) (bytes_after C key F x l b)) (take-append-le (asked_by F x) ns d (omega arith))
-    ∙ traced-extra C key (apply F x).1 xs (drop (asked_by F x) ns) d (bytes_after C key F x (take (asked_by F x) ns) b) (omega (arith, length-drop (asked_by F x) ns))
+  -- nonces behind those that are taken
+  pub traced-extra : (C : Cipher) (key : List ℕ) (F : File) (xs : List Command) (ns d b : List ℕ) → length ns ≡ asked_in limit F xs → traced limit C key F xs (ns ++ d) b ≡ traced limit C key F xs ns b
+  traced-extra C key F [] ns d b len = refl
+  traced-extra C key F (x ∷ xs) ns d b len =
+      ap (λ (l : List ℕ). traced limit C key (apply limit F x).1 xs l (bytes_after limit C key F x (take (asked_by limit F x) (ns ++ d)) b)) (drop-append-le (asked_by limit F x) ns d (omega arith))
+      ∙ ap (λ (l : List ℕ). traced limit C key (apply limit F x).1 xs (drop (asked_by limit F x) ns ++ d) (bytes_after limit C key F x l b)) (take-append-le (asked_by limit F x) ns d (omega arith))
+      ∙ traced-extra C key (apply limit F x).1 xs (drop (asked_by limit F x) ns) d (bytes_after limit C key F x (take (asked_by limit F x) ns) b) (omega (arith, length-drop (asked_by limit F x) ns))
 
-pub traced-push : (C : Cipher) (key : List ℕ) (F : File) (xs : List Command) (c : Command) (ns d b : List ℕ) → length ns ≡ asked_in F xs → length d ≡ asked_by (file_after F xs) c
-    → traced C key F (xs ++ c ∷ []) (ns ++ d) b ≡ bytes_after C key (file_after F xs) c d (traced C key F xs ns b)
-traced-push C key F [] c [] d b len more = ap (λ (l : List ℕ). bytes_after C key F c l b) (take_all (asked_by F c) d (omega arith))
-traced-push C key F [] c (n ∷ ns) d b len more = absurd (omega (arith, len))
-traced-push C key F (x ∷ xs) c ns d b len more =
-    ap (λ (l : List ℕ). traced C key (apply F x).1 (xs ++ c ∷ []) l (bytes_after C key F x (take (asked_by F x) (ns ++ d)) b)) (drop-append-le (asked_by F x) ns d (omega arith))
-    ∙ ap (λ (l : List ℕ). traced C key (apply F x).1 (xs ++ c ∷ []) (drop (asked_by F x) ns ++ d) (bytes_after C key F x l b)) (take-append-le (asked_by F x) ns d (omega arith))
-    ∙ traced-push C key (apply F x).1 xs c (drop (asked_by F x) ns) d (bytes_after C key F x (take (asked_by F x) ns) b) (omega (arith, length-drop (asked_by F x) ns)) more
+  pub traced-push : (C : Cipher) (key : List ℕ) (F : File) (xs : List Command) (c : Command) (ns d b : List ℕ) → length ns ≡ asked_in limit F xs → length d ≡ asked_by limit (file_after limit F xs) c
+      → traced limit C key F (xs ++ c ∷ []) (ns ++ d) b ≡ bytes_after limit C key (file_after limit F xs) c d (traced limit C key F xs ns b)
+  traced-push C key F [] c [] d b len more = ap (λ (l : List ℕ). bytes_after limit C key F c l b) (take_all (asked_by limit F c) d (omega arith))
+  traced-push C key F [] c (n ∷ ns) d b len more = absurd (omega (arith, len))
+  traced-push C key F (x ∷ xs) c ns d b len more =
+      ap (λ (l : List ℕ). traced limit C key (apply limit F x).1 (xs ++ c ∷ []) l (bytes_after limit C key F x (take (asked_by limit F x) (ns ++ d)) b)) (drop-append-le (asked_by limit F x) ns d (omega arith))
+      ∙ ap (λ (l : List ℕ). traced limit C key (apply limit F x).1 (xs ++ c ∷ []) (drop (asked_by limit F x) ns ++ d) (bytes_after limit C key F x l b)) (take-append-le (asked_by limit F x) ns d (omega arith))
+      ∙ traced-push C key (apply limit F x).1 xs c (drop (asked_by limit F x) ns) d (bytes_after limit C key F x (take (asked_by limit F x) ns) b) (omega (arith, length-drop (asked_by limit F x) ns)) more
 
-pub authentic-push : (C : Cipher) (key : List ℕ) (F : File) (xs : List Command) (c : Command) (ns d b : List ℕ) → length ns ≡ asked_in F xs
-    → AllAuthentic C key F xs ns b → Authentic C key (traced C key F xs ns b) (file_after F xs) c (apply (file_after F xs) c).0 → AllAuthentic C key F (xs ++ c ∷ []) (ns ++ d) b
-authentic-push C key F [] c ns d b len all last = (last, tt)
-authentic-push C key F (x ∷ xs) c ns d b len all last = (
-  all.0,
-  subst (λ (l : List ℕ). AllAuthentic C key (apply F x).1 (xs ++ c ∷ []) l (bytes_after C key F x (take (asked_by F x) (ns ++ d)) b)) (sym (drop-append-le (asked_by F x) ns d (omega arith)))
-      (subst (λ (l : List ℕ). AllAuthentic C key (apply F x).1 (xs ++ c ∷ []) (drop (asked_by F x) ns ++ d) (bytes_after C key F x l b)) (sym (take-append-le (asked_by F x) ns d (omega arith)))
-      (authentic-push C key (apply F x).1 xs c (drop (asked_by F x) ns) d (bytes_after C key F x (take (asked_by F x) ns) b) (omega (arith, length-drop (asked_by F x) ns)) all.1 last)),
-)
+  pub authentic-push : (C : Cipher) (key : List ℕ) (F : File) (xs : List Command) (c : Command) (ns d b : List ℕ) → length ns ≡ asked_in limit F xs
+      → AllAuthentic limit C key F xs ns b → Authentic C key (traced limit C key F xs ns b) (file_after limit F xs) c (apply limit (file_after limit F xs) c).0 → AllAuthentic limit C key F (xs ++ c ∷ []) (ns ++ d) b
+  authentic-push C key F [] c ns d b len all last = (last, tt)
+  authentic-push C key F (x ∷ xs) c ns d b len all last = (
+    all.0,
+    subst (λ (l : List ℕ). AllAuthentic limit C key (apply limit F x).1 (xs ++ c ∷ []) l (bytes_after limit C key F x (take (asked_by limit F x) (ns ++ d)) b)) (sym (drop-append-le (asked_by limit F x) ns d (omega arith)))
+        (subst (λ (l : List ℕ). AllAuthentic limit C key (apply limit F x).1 (xs ++ c ∷ []) (drop (asked_by limit F x) ns ++ d) (bytes_after limit C key F x l b)) (sym (take-append-le (asked_by limit F x) ns d (omega arith)))
+        (authentic-push C key (apply limit F x).1 xs c (drop (asked_by limit F x) ns) d (bytes_after limit C key F x (take (asked_by limit F x) ns) b) (omega (arith, length-drop (asked_by limit F x) ns)) all.1 last)),
+  )
 
 -- the same of replies by numbers
 pub shaped-push : (chunk_size size : ℕ) (xs : List Command) (rs : List Reply) (c : Command) (r : Reply) → AllShaped chunk_size size xs rs → Shaped chunk_size (shaped_end size xs rs) c r

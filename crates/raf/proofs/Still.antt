@@ -5,14 +5,16 @@ use Rattle.std.proofs.lemmas.Bool.{false≢true}
 use Rattle.raf.specs.Source.{Takes}
 use Rattle.raf.specs.Cipher.{Cipher}
 use Rattle.raf.specs.File.{File, chunk_count, file_layout}
-use Rattle.raf.specs.Concern.{size_after, touched, needed, sum_where}
+use Rattle.raf.specs.Due.{Due, Answers, is_refused}
+use Rattle.raf.specs.Due.Due.{Exactly}
+use Rattle.raf.specs.Concern.{no_limit, size_after, touched, needed, sum_where}
 use Rattle.raf.specs.Apply.{apply}
 use Rattle.raf.specs.Image.{image, is_change, bytes_after, asked_by, changes_by, traffic_by, record_len}
 use Rattle.raf.specs.Outside.{Outside, Kept, Quiet, Caused, Moved}
 use Rattle.raf.specs.Session.{Faultable, Concerned, Authentic, Shaped, shaped_size, MayFail}
 use Rattle.raf.specs.Stepped.{Holds, Stepped, Cut, with_size, unsealed}
 use Rattle.raf.specs.Loaded.{Loaded}
-use Rattle.raf.specs.Kinds.{is_fault, is_refused}
+use Rattle.raf.specs.Kinds.{is_fault}
 use Rattle.raf.specs.declared.format.header.Header.{Header}
 use Rattle.raf.specs.declared.command.Command.{Command}
 use Rattle.raf.specs.declared.command.Reply.{Reply}
@@ -25,26 +27,26 @@ use Rattle.raf.proofs.Moves.{moved_less, takes_none}
 use Rattle.raf.proofs.Sums.{sum_none, needed_len, needed_count, layout_is}
 
 -- it is refused, or it changes nothing
-abbrev pub Rests : File → Command → Reply → Type 0
-Rests F c r = (is_refused r ≡ true) ⊎ ((is_change F c ≡ false) × ((i : ℕ) → touched F c i ≡ false))
+abbrev pub Rests : File → Command → Due → Type 0
+Rests F c d = (is_refused d ≡ true) ⊎ ((is_change F c ≡ false) × ((i : ℕ) → touched F c i ≡ false))
 
-pub rest_bytes : (C : Cipher) (key : List ℕ) (F : File) (c : Command) (r : Reply) (nonces b : List ℕ) → (apply F c).0 ≡ r → Rests F c r → bytes_after C key F c nonces b ≡ b
-rest_bytes C key F c r nonces b is (inl refused) =
-    ap (λ (t : Bool). cond {A = List ℕ} t b (cond {A = List ℕ} (is_change F c) (image C key b (apply F c).1 (touched F c) nonces) b)) (ap is_refused is ∙ refused)
-rest_bytes C key F c r nonces b is (inr quiet) =
-    ap (λ (t : Bool). cond {A = List ℕ} (is_refused (apply F c).0) b (cond {A = List ℕ} t (image C key b (apply F c).1 (touched F c) nonces) b)) quiet.0
-    ∙ same (is_refused (apply F c).0)
+pub rest_bytes : (C : Cipher) (key : List ℕ) (F : File) (c : Command) (d : Due) (nonces b : List ℕ) → (apply no_limit F c).0 ≡ d → Rests F c d → bytes_after no_limit C key F c nonces b ≡ b
+rest_bytes C key F c d nonces b is (inl refused) =
+    ap (λ (t : Bool). cond {A = List ℕ} t b (cond {A = List ℕ} (is_change F c) (image C key b (apply no_limit F c).1 (touched F c) nonces) b)) (ap is_refused is ∙ refused)
+rest_bytes C key F c d nonces b is (inr quiet) =
+    ap (λ (t : Bool). cond {A = List ℕ} (is_refused (apply no_limit F c).0) b (cond {A = List ℕ} t (image C key b (apply no_limit F c).1 (touched F c) nonces) b)) quiet.0
+    ∙ same (is_refused (apply no_limit F c).0)
   where
     same : (t : Bool) → cond {A = List ℕ} t b b ≡ b
     same true = refl
     same false = refl
 
-pub rest_asked : (F : File) (c : Command) (r : Reply) → (apply F c).0 ≡ r → Rests F c r → asked_by F c ≡ 0
-rest_asked F c r is (inl refused) =
+pub rest_asked : (F : File) (c : Command) (d : Due) → (apply no_limit F c).0 ≡ d → Rests F c d → asked_by no_limit F c ≡ 0
+rest_asked F c d is (inl refused) =
     ap (λ (t : Bool). cond {A = ℕ} t 0 (sum_where (touched F c) (λ _. F.nonce_len) 0 (chunk_count F.chunk_size (size_after F c)))) (ap is_refused is ∙ refused)
-rest_asked F c r is (inr quiet) =
-    ap (λ (k : ℕ). cond {A = ℕ} (is_refused (apply F c).0) 0 k) (sum_none (touched F c) (λ _. F.nonce_len) 0 (chunk_count F.chunk_size (size_after F c)) quiet.1)
-    ∙ same (is_refused (apply F c).0)
+rest_asked F c d is (inr quiet) =
+    ap (λ (k : ℕ). cond {A = ℕ} (is_refused (apply no_limit F c).0) 0 k) (sum_none (touched F c) (λ _. F.nonce_len) 0 (chunk_count F.chunk_size (size_after F c)) quiet.1)
+    ∙ same (is_refused (apply no_limit F c).0)
   where
     same : (t : Bool) → cond {A = ℕ} t 0 0 ≡ 0
     same true = refl
@@ -66,40 +68,40 @@ moved_loose a b end traffic asked changes n m le = record {
 }
 
 -- what the file says of the reply, and that the calls stay within it
-pub record Answers (C : Cipher) (key : List ℕ) (F : File) (b : List ℕ) (c : Command) (r : Reply) (old new : Outside) (end traffic : ℕ) : Type 0 where
-  pub is : apply F c ≡ (r, F)
-  pub rests : Rests F c r
-  pub authentic : Authentic C key b F c r
+pub record Replied (C : Cipher) (key : List ℕ) (F : File) (b : List ℕ) (c : Command) (r : Reply) (old new : Outside) (end traffic : ℕ) : Type 0 where
+  pub is : apply no_limit F c ≡ (Exactly r, F)
+  pub rests : Rests F c (Exactly r)
+  pub authentic : Authentic C key b F c (Exactly r)
   pub ends : end ≤ file_layout F
-  pub asks : traffic ≤ traffic_by F c
+  pub asks : traffic ≤ traffic_by no_limit F c
   pub strays : new.strays ≡ old.strays
 
 pub stepped_still : (C : Cipher) (key : List ℕ) (h k : Header) (old new : Outside) (c : Command) (r : Reply) (end traffic : ℕ)
     → k ≡ h → is_fault r ≡ false → shaped_size h.file_size c r ≡ h.file_size → Shaped h.chunk_size h.file_size c r
     → Kept old new → Quiet old new → Moved old new end traffic 0 0
-    → ((F : File) (b : List ℕ) → old.bytes ≡ Some b → Holds C key b h F → Answers C key F b c r old new end traffic)
+    → ((F : File) (b : List ℕ) → old.bytes ≡ Some b → Holds C key b h F → Replied C key F b c r old new end traffic)
     → Stepped C key h k old new c r
 stepped_still C key h k old new c r end traffic header fine size shape kept quiet moved answers = record {
   answered = λ F b told held _.
       let a = answers F b told held in
-      let reply : (apply F c).0 ≡ r = ap (λ (p : Reply × File). p.0) a.is in
-      let same : bytes_after C key F c [] b ≡ b = rest_bytes C key F c r [] b reply a.rests in
+      let due : (apply no_limit F c).0 ≡ Exactly r = ap (λ (p : Due × File). p.0) a.is in
+      let same : bytes_after no_limit C key F c [] b ≡ b = rest_bytes C key F c (Exactly r) [] b due a.rests in
       record {
-        due = sym reply;
+        due = subst (Answers r) (sym due) refl;
         nonces = [];
-        drawn = sym (rest_asked F c r reply a.rests);
+        drawn = sym (rest_asked F c (Exactly r) due a.rests);
         taken = subst (λ (o : Option (List ℕ)). Takes old.left [] o) (sym kept.left) (takes_none old.left);
         tells = kept.bytes ∙ told ∙ ap (λ (l : List ℕ). Some l) (sym same);
-        holds = subst (λ (x : List ℕ). Holds C key x k (apply F c).1) (sym same)
-            (subst (λ (x : Header). Holds C key b x (apply F c).1) (sym header)
-            (subst (Holds C key b h) (sym (ap (λ (p : Reply × File). p.1) a.is)) held));
-        authentic = subst (Authentic C key b F c) (sym reply) a.authentic;
+        holds = subst (λ (x : List ℕ). Holds C key x k (apply no_limit F c).1) (sym same)
+            (subst (λ (x : Header). Holds C key b x (apply no_limit F c).1) (sym header)
+            (subst (Holds C key b h) (sym (ap (λ (p : Due × File). p.1) a.is)) held));
+        authentic = subst (Authentic C key b F c) (sym due) a.authentic;
       };
   cut = λ kind is fails. absurd (false≢true (sym fine ∙ fails));
   bounded = λ F b told held.
       let a = answers F b told held in
       record {
-        moved = moved_less old new end traffic 0 0 (max (file_layout F) (file_layout (apply F c).1)) (traffic_by F c) (asked_by F c) (changes_by F c) moved
+        moved = moved_less old new end traffic 0 0 (max (file_layout F) (file_layout (apply no_limit F c).1)) (traffic_by no_limit F c) (asked_by no_limit F c) (changes_by no_limit F c) moved
             (omega (arith, a.ends)) a.asks (omega arith) (omega arith);
         strays = a.strays;
       };
@@ -112,9 +114,9 @@ stepped_still C key h k old new c r end traffic header fine size shape kept quie
 
 -- a fault of the storage before anything was changed
 pub record Blocked (F : File) (c : Command) (old new : Outside) (end traffic : ℕ) : Type 0 where
-  pub due : Faultable Io F c
+  pub due : Faultable no_limit Io F c
   pub ends : end ≤ file_layout F
-  pub asks : traffic ≤ traffic_by F c
+  pub asks : traffic ≤ traffic_by no_limit F c
   pub strays : new.strays ≡ old.strays
 
 pub stepped_blocked : (C : Cipher) (key : List ℕ) (h k : Header) (old new : Outside) (c : Command) (end traffic : ℕ)
@@ -136,7 +138,7 @@ stepped_blocked C key h k old new c end traffic kept cause moved may blocked = r
   bounded = λ F b told held.
       let a = blocked F b told held in
       record {
-        moved = moved_less old new end traffic 0 0 (max (file_layout F) (file_layout (apply F c).1)) (traffic_by F c) (asked_by F c) (changes_by F c) moved
+        moved = moved_less old new end traffic 0 0 (max (file_layout F) (file_layout (apply no_limit F c).1)) (traffic_by no_limit F c) (asked_by no_limit F c) (changes_by no_limit F c) moved
             (omega (arith, a.ends)) a.asks (omega arith) (omega arith);
         strays = a.strays;
       };
@@ -151,7 +153,7 @@ stepped_blocked C key h k old new c end traffic kept cause moved may blocked = r
 pub stepped_unloaded : (C : Cipher) (key : List ℕ) (h k : Header) (old new : Outside) (c : Command) (kind : ErrorKind) (end traffic : ℕ)
     → k ≡ h → shaped_size h.file_size c (Refused AuthenticationFailed) ≡ h.file_size → Shaped h.chunk_size h.file_size c (Refused AuthenticationFailed)
     → Kept old new → Loaded kind old new → Moved old new end traffic 0 0 → MayFail h.chunk_size c Io
-    → (kind ≡ AuthenticationFailed → (F : File) (b : List ℕ) → old.bytes ≡ Some b → Holds C key b h F → Answers C key F b c (Refused AuthenticationFailed) old new end traffic)
+    → (kind ≡ AuthenticationFailed → (F : File) (b : List ℕ) → old.bytes ≡ Some b → Holds C key b h F → Replied C key F b c (Refused AuthenticationFailed) old new end traffic)
     → ((F : File) (b : List ℕ) → old.bytes ≡ Some b → Holds C key b h F → Blocked F c old new end traffic)
     → Stepped C key h k old new c (Refused kind)
 stepped_unloaded C key h k old new c Io end traffic header size shape kept why moved may auth blocked = stepped_blocked C key h k old new c end traffic kept why moved may blocked

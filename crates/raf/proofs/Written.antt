@@ -5,28 +5,30 @@ use Rattle.std.proofs.lemmas.Bool.{false≢true}
 use Rattle.raf.specs.Source.{Takes, TakesAtMost}
 use Rattle.raf.specs.Cipher.{Cipher, IsLawful}
 use Rattle.raf.specs.File.{File, chunk_count, file_layout}
-use Rattle.raf.specs.Concern.{touched, needed, sum_where}
+use Rattle.raf.specs.Due.{Due, Answers, is_refused}
+use Rattle.raf.specs.Due.Due.{Exactly}
+use Rattle.raf.specs.Concern.{no_limit, touched, needed, sum_where}
 use Rattle.raf.specs.Apply.{apply}
 use Rattle.raf.specs.Image.{bytes_after, asked_by, changes_by, traffic_by, record_len}
 use Rattle.raf.specs.Outside.{Outside, Quiet, Caused, Moved}
 use Rattle.raf.specs.Loaded.{Spared}
 use Rattle.raf.specs.Session.{Spares, Faultable, MayFail}
 use Rattle.raf.specs.Stepped.{Holds, Stepped, Cut, with_size, message, stored, laid}
-use Rattle.raf.specs.Kinds.{is_fault, is_refused}
+use Rattle.raf.specs.Kinds.{is_fault}
 use Rattle.raf.specs.declared.format.header.Header.{Header}
 use Rattle.raf.specs.declared.command.Command.TheVariants.{Write}
-use Rattle.raf.specs.declared.command.Reply.{Reply}
 use Rattle.raf.specs.declared.command.Reply.TheVariants.{Wrote, Refused}
 use Rattle.raf.specs.declared.errors.ErrorKind.{ErrorKind}
 use Rattle.raf.specs.declared.errors.ErrorKind.TheVariants.{Io, InvalidArgument, AuthenticationFailed, AlreadyExists, NotFound, Overflow, MerkleNotEnabled, CorruptedChunk, Rng, Hash, Broken, OutOfMemory, Unbuilt}
 use Rattle.raf.proofs.Laid.{holds_stored}
 use Rattle.raf.proofs.Moves.{moved_less}
+use Rattle.raf.proofs.Wrote.{change_is}
 use Rattle.raf.proofs.Still.{moved_loose}
 use Rattle.raf.proofs.Changes.{shaped_wrote, sized_wrote, may_io, may_rng, touches, count, free, after, one_touched, written_len, header_traffic, asked_is, changes_is, layout_after, stored_bytes}
 
 -- what the file says of a write: it is accepted, and this much was asked before
 pub record Accepted (C : Cipher) (key : List ℕ) (F : File) (offset : ℕ) (text kept : List ℕ) (old new : Outside) (before : ℕ) : Type 0 where
-  pub is : apply F (Write offset text) ≡ (Wrote (length text), stored F offset text kept)
+  pub is : apply no_limit F (Write offset text) ≡ (Exactly (Wrote (length text)), stored F offset text kept)
   pub asks : before ≤ sum_where (needed F (Write offset text)) (record_len F F.size) 0 (chunk_count F.chunk_size F.size)
   pub strays : new.strays ≡ old.strays
 
@@ -35,19 +37,19 @@ module _ (C : Cipher) (lawful : IsLawful C) (key : List ℕ) (h : Header) (old n
     (moved : Moved old new (96 + (C.nonce_len + max h.file_size (offset + length text) + 16))
     (before + ((C.nonce_len + max h.file_size (offset + length text) + 16) + cond {A = ℕ} (nat_eq (max h.file_size (offset + length text)) h.file_size) 0 96))
     C.nonce_len (1 + cond {A = ℕ} (nat_eq (max h.file_size (offset + length text)) h.file_size) 0 1)) where
-  accepted_fine : (F : File) → apply F (Write offset text) ≡ (Wrote (length text), stored F offset text kept) → is_refused (apply F (Write offset text)).0 ≡ false
-  accepted_fine F is = ap (λ (p : Reply × File). is_refused p.0) is
+  accepted_fine : (F : File) → apply no_limit F (Write offset text) ≡ (Exactly (Wrote (length text)), stored F offset text kept) → is_refused (apply no_limit F (Write offset text)).0 ≡ false
+  accepted_fine F is = ap (λ (p : Due × File). is_refused p.0) is
 
   bounded_moves : (F : File) (b : List ℕ) → Holds C key b h F → Accepted C key F offset text kept old new before
-      → Moved old new (max (file_layout F) (file_layout (apply F (Write offset text)).1)) (traffic_by F (Write offset text)) (asked_by F (Write offset text)) (changes_by F (Write offset text))
+      → Moved old new (max (file_layout F) (file_layout (apply no_limit F (Write offset text)).1)) (traffic_by no_limit F (Write offset text)) (asked_by no_limit F (Write offset text)) (changes_by no_limit F (Write offset text))
   bounded_moves F b held a =
       let fine = accepted_fine F a.is in
-      let layout : file_layout (apply F (Write offset text)).1 ≡ 96 + (C.nonce_len + max h.file_size (offset + length text) + 16) =
-      ap (λ (p : Reply × File). file_layout p.1) a.is ∙ layout_after C lawful key b h F offset text held some inside one kept in
+      let layout : file_layout (apply no_limit F (Write offset text)).1 ≡ 96 + (C.nonce_len + max h.file_size (offset + length text) + 16) =
+      ap (λ (p : Due × File). file_layout p.1) a.is ∙ layout_after C lawful key b h F offset text held some inside one kept in
       moved_less old new (96 + (C.nonce_len + max h.file_size (offset + length text) + 16))
       (before + ((C.nonce_len + max h.file_size (offset + length text) + 16) + cond {A = ℕ} (nat_eq (max h.file_size (offset + length text)) h.file_size) 0 96))
       C.nonce_len (1 + cond {A = ℕ} (nat_eq (max h.file_size (offset + length text)) h.file_size) 0 1)
-      (max (file_layout F) (file_layout (apply F (Write offset text)).1)) (traffic_by F (Write offset text)) (asked_by F (Write offset text)) (changes_by F (Write offset text)) moved
+      (max (file_layout F) (file_layout (apply no_limit F (Write offset text)).1)) (traffic_by no_limit F (Write offset text)) (asked_by no_limit F (Write offset text)) (changes_by no_limit F (Write offset text)) moved
       (omega (arith, layout))
       (omega (arith, a.asks, written_len C lawful key b h F offset text held some inside one, header_traffic C lawful key b h F offset text held some inside one))
       (omega (arith, asked_is C lawful key b h F offset text held some inside one fine))
@@ -64,17 +66,17 @@ module _ (C : Cipher) (lawful : IsLawful C) (key : List ℕ) (h : Header) (old n
         let fine = accepted_fine F a.is in
         let n = max h.file_size (offset + length text) in
         let bytes = laid C key (with_size h n) nonce (message n offset text kept) in
-        let same : bytes_after C key F (Write offset text) nonce b ≡ laid C key (with_size h (max h.file_size (offset + length text))) nonce (message (max h.file_size (offset + length text)) offset text kept) =
+        let same : bytes_after no_limit C key F (Write offset text) nonce b ≡ laid C key (with_size h (max h.file_size (offset + length text))) nonce (message (max h.file_size (offset + length text)) offset text kept) =
         stored_bytes C lawful key b h F offset text held some inside one kept nonce len a.is in
         record {
-          due = sym (ap (λ (p : Reply × File). p.0) a.is);
+          due = subst (Answers (Wrote (length text))) (sym (ap (λ (p : Due × File). p.0) a.is)) refl;
           nonces = nonce;
           drawn = len ∙ sym (asked_is C lawful key b h F offset text held some inside one fine);
           taken = taken;
           tells = told_after F b told held ∙ ap (λ (l : List ℕ). Some l) (sym same);
-          holds = subst (λ (x : List ℕ). Holds C key x k (apply F (Write offset text)).1) (sym same)
-              (subst (λ (x : Header). Holds C key bytes x (apply F (Write offset text)).1) (sym header)
-              (subst (Holds C key bytes (with_size h n)) (sym (ap (λ (p : Reply × File). p.1) a.is))
+          holds = subst (λ (x : List ℕ). Holds C key x k (apply no_limit F (Write offset text)).1) (sym same)
+              (subst (λ (x : Header). Holds C key bytes x (apply no_limit F (Write offset text)).1) (sym header)
+              (subst (Holds C key bytes (with_size h n)) (sym (ap (λ (p : Due × File). p.1) a.is))
               (holds_stored C lawful key b nonce kept text F h offset n held refl some (omega (arith, inside, one)) len)));
           authentic = tt;
         };
@@ -89,14 +91,14 @@ module _ (C : Cipher) (lawful : IsLawful C) (key : List ℕ) (h : Header) (old n
 
   spares_by : (F : File) (b c : List ℕ) → Holds C key b h F → (max h.file_size (offset + length text) ≡ h.file_size → take 96 c ≡ take 96 b) → Spares F (Write offset text) b c
   spares_by F b c held front = record {
-    untouched = λ none. absurd (omega (arith, none, one_touched C lawful key b h F offset text held some inside one));
+    untouched = λ stays. absurd (false≢true (sym stays ∙ change_is F offset text some));
     header = λ same. front (sym (after C lawful key b h F offset text held some inside one) ∙ same ∙ ap (λ (f : File). f.size) held.file);
     records = λ index below below_new off.
         let first : index ≡ 0 = omega (arith, below_new, count C lawful key b h F offset text held some inside one) in
         absurd (false≢true (sym off ∙ ap (touched F (Write offset text)) first ∙ touches C lawful key b h F offset text held some inside one));
   }
 
-  cut_by : (kind : ErrorKind) (F : File) (b : List ℕ) → old.bytes ≡ Some b → Holds C key b h F → Accepted C key F offset text kept old new before → Faultable kind F (Write offset text)
+  cut_by : (kind : ErrorKind) (F : File) (b : List ℕ) → old.bytes ≡ Some b → Holds C key b h F → Accepted C key F offset text kept old new before → Faultable no_limit kind F (Write offset text)
       → TakesAtMost old.left C.nonce_len new.left → Spared (max h.file_size (offset + length text)) h.file_size b new.bytes → Cut kind old new F b (Write offset text)
   cut_by kind F b told held a due left spared =
       let fine = accepted_fine F a.is in
@@ -108,10 +110,10 @@ module _ (C : Cipher) (lawful : IsLawful C) (key : List ℕ) (h : Header) (old n
         spares = spares_by F b spared.0 held spared.2;
       }
 
-  due_io : (F : File) (b : List ℕ) → Holds C key b h F → Faultable Io F (Write offset text)
+  due_io : (F : File) (b : List ℕ) → Holds C key b h F → Faultable no_limit Io F (Write offset text)
   due_io F b held = (free C lawful key b h F offset text held some inside one, omega (arith, one_touched C lawful key b h F offset text held some inside one))
 
-  due_rng : (F : File) (b : List ℕ) → Holds C key b h F → Accepted C key F offset text kept old new before → Faultable Rng F (Write offset text)
+  due_rng : (F : File) (b : List ℕ) → Holds C key b h F → Accepted C key F offset text kept old new before → Faultable no_limit Rng F (Write offset text)
   due_rng F b held a =
       let fine = accepted_fine F a.is in
       (fine, omega (arith, asked_is C lawful key b h F offset text held some inside one fine, lawful.nonce_least))

@@ -1,12 +1,14 @@
--- What commands do to a file, and what they answer. The file has no hasher.
-use Rattle.std.specs.Prelude.{ℕ, zero, suc, ◌+◌, ◌-◌, ◌*◌, min, max, ◌&&◌, if◌then◌else◌, nat_lt, nat_le, nat_eq, List, [], ◌∷◌, ◌++◌, length, take, drop, slice_index, Option, Some, None, unwrap_or}
+-- What commands do to a file, and what is due to them.
+use Rattle.std.specs.Prelude.{ℕ, zero, suc, ◌+◌, ◌-◌, ◌*◌, min, max, ◌&&◌, not, if◌then◌else◌, nat_lt, nat_le, nat_eq, List, [], ◌∷◌, ◌++◌, length, take, drop, slice_index, Option, Some, None, unwrap_or}
 use Rattle.raf.specs.Storage.{resized}
 use Rattle.raf.specs.File.{File, chunk_count, chunk_len, file_layout}
-use Rattle.raf.specs.Concern.{is_touched, is_resized, written_size, needed, fits, none_missing, is_unbuilt}
+use Rattle.raf.specs.Concern.{is_touched, is_resized, written_size, needed, fits, none_missing, valid, is_unbuilt}
+use Rattle.raf.specs.Due.{Due}
+use Rattle.raf.specs.Due.Due.{Exactly, Merkle}
 use Rattle.raf.specs.declared.command.Command.{Command}
 use Rattle.raf.specs.declared.command.Command.TheVariants as command
-use Rattle.raf.specs.declared.command.Reply.{Reply}
 use Rattle.raf.specs.declared.command.Reply.TheVariants.{Bytes, Wrote, Done, Size, Refused}
+use Rattle.raf.specs.declared.errors.ErrorKind.{ErrorKind}
 use Rattle.raf.specs.declared.errors.ErrorKind.TheVariants.{AuthenticationFailed, Overflow, MerkleNotEnabled, Unbuilt}
 
 -- the bytes of a range, chunk by chunk
@@ -67,36 +69,40 @@ changed F (command.Write offset (x ∷ xs)) = after_write F offset (x ∷ xs)
 changed F (command.Truncate size) = if nat_eq size F.size then F else after_truncate F size
 changed F _ = F
 
--- the reply to a command that is valid
-abbrev pub answer : File → Command → Reply
-answer F (command.Read offset len) = Bytes (bytes_between F.chunk_size offset (min (offset + len) F.size) 0 F.chunks)
-answer F (command.Write offset bytes) = Wrote (length bytes)
-answer F (command.Truncate size) = Done
-answer F command.Size = Size F.size
-answer F command.Sync = Done
-answer F _ = Refused MerkleNotEnabled
+-- what is due to a command that is valid
+abbrev pub answer : File → Command → Due
+answer F (command.Read offset len) = Exactly (Bytes (bytes_between F.chunk_size offset (min (offset + len) F.size) 0 F.chunks))
+answer F (command.Write offset bytes) = Exactly (Wrote (length bytes))
+answer F (command.Truncate size) = Exactly Done
+answer F command.Size = Exactly (Size F.size)
+answer F command.Sync = Exactly Done
+answer F _ = Merkle
 
--- the reply to a command, and the file after it: numbers that don't fit, and then a missing chunk that is needed, refuse it
-abbrev pub apply_built : File → Command → Reply × File
-apply_built F c =
-    if fits F c
-    then (if none_missing (needed F c) 0 F.chunks then (answer F c, changed F c) else (Refused AuthenticationFailed, F))
-    else (Refused Overflow, F)
+-- why a command that isn't valid is refused: numbers that don't fit come before a missing chunk that is needed
+abbrev pub cause_of : Option ℕ → File → Command → ErrorKind
+cause_of limit F c =
+    if not (fits limit F c) then Overflow
+    else if not (none_missing (needed F c) 0 F.chunks) then AuthenticationFailed
+    else MerkleNotEnabled
+
+-- what is due to a command, and the file after it. One that isn't valid is refused and leaves the file
+abbrev pub apply_built : Option ℕ → File → Command → Due × File
+apply_built limit F c = if valid limit F c then (answer F c, changed F c) else (Exactly (Refused (cause_of limit F c)), F)
 
 -- the same, after the rule on what isn't built yet
-abbrev pub apply : File → Command → Reply × File
-apply F c = if is_unbuilt F c then (Refused Unbuilt, F) else apply_built F c
+abbrev pub apply : Option ℕ → File → Command → Due × File
+apply limit F c = if is_unbuilt F c then (Exactly (Refused Unbuilt), F) else apply_built limit F c
 
--- play: the replies to commands in order, and the file in the end
-abbrev pub replies_of : File → List Command → List Reply
-replies_of F [] = []
-replies_of F (command ∷ commands) = (apply F command).0 ∷ replies_of (apply F command).1 commands
+-- play: what is due to commands in order, and the file in the end
+abbrev pub due_to : Option ℕ → File → List Command → List Due
+due_to limit F [] = []
+due_to limit F (command ∷ commands) = (apply limit F command).0 ∷ due_to limit (apply limit F command).1 commands
 
-abbrev pub file_after : File → List Command → File
-file_after F [] = F
-file_after F (command ∷ commands) = file_after (apply F command).1 commands
+abbrev pub file_after : Option ℕ → File → List Command → File
+file_after limit F [] = F
+file_after limit F (command ∷ commands) = file_after limit (apply limit F command).1 commands
 
 -- the longest storage of a file on the way
-abbrev pub longest : File → List Command → ℕ
-longest F [] = file_layout F
-longest F (command ∷ commands) = max (file_layout F) (longest (apply F command).1 commands)
+abbrev pub longest : Option ℕ → File → List Command → ℕ
+longest limit F [] = file_layout F
+longest limit F (command ∷ commands) = max (file_layout F) (longest limit (apply limit F command).1 commands)

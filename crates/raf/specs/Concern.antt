@@ -1,6 +1,6 @@
--- What a command concerns: the size afterwards, the chunks that it needs, and those that it touches.
-use Rattle.std.specs.Prelude.{ℕ, zero, suc, ◌+◌, ◌*◌, ◌^◌, min, max, Bool, true, false, ◌&&◌, ◌||◌, not, if◌then◌else◌, nat_lt, nat_le, nat_eq, List, [], ◌∷◌, length, Option, is_some}
-use Rattle.raf.specs.File.{File, chunk_len, layout_len}
+-- What a command concerns: the size afterwards, the chunks that it needs, and those that it touches; and whether it is valid.
+use Rattle.std.specs.Prelude.{ℕ, zero, suc, ◌+◌, ◌*◌, ◌^◌, min, max, Bool, true, false, ◌&&◌, ◌||◌, not, if◌then◌else◌, nat_lt, nat_le, nat_eq, List, [], ◌∷◌, length, Option, Some, None, is_some}
+use Rattle.raf.specs.File.{File, chunk_count, chunk_len, layout_len}
 use Rattle.raf.specs.declared.command.Command.{Command}
 use Rattle.raf.specs.declared.command.Command.TheVariants as command
 
@@ -64,13 +64,37 @@ abbrev pub none_missing : (ℕ → Bool) → ℕ → List (Option (List ℕ)) �
 none_missing test index [] = true
 none_missing test index (c ∷ chunks) = (not (test index) || is_some c) && none_missing test (index + 1) chunks
 
--- the numbers of a change fit: the data's end and the new length of the storage are below 2^64
-abbrev pub fits : File → Command → Bool
-fits F (command.Write offset []) = true
-fits F (command.Write offset (x ∷ xs)) =
-    nat_lt (write_end F offset (x ∷ xs)) (2 ^ 64) && nat_lt (layout_len F.nonce_len F.chunk_size (written_size F offset (x ∷ xs))) (2 ^ 64)
-fits F (command.Truncate size) = nat_eq size F.size || nat_lt (layout_len F.nonce_len F.chunk_size size) (2 ^ 64)
-fits F _ = true
+-- a limit is the most chunks that a file may have. A hasher sets one, and without a hasher there is none
+abbrev pub no_limit : Option ℕ
+no_limit = None
+
+abbrev pub within : Option ℕ → ℕ → Bool
+within None count = true
+within (Some most) count = nat_le count most
+
+-- the file can have this size: the size and the new length of the storage are below 2^64, and the new count of chunks is within the limit
+abbrev pub can_have : Option ℕ → File → ℕ → Bool
+can_have limit F size =
+    nat_lt size (2 ^ 64) && nat_lt (layout_len F.nonce_len F.chunk_size size) (2 ^ 64) && within limit (chunk_count F.chunk_size size)
+
+-- the numbers of a change fit: the data's end is below 2^64, and the file can have the new size
+abbrev pub fits : Option ℕ → File → Command → Bool
+fits limit F (command.Write offset []) = true
+fits limit F (command.Write offset (x ∷ xs)) = nat_lt (write_end F offset (x ∷ xs)) (2 ^ 64) && can_have limit F (written_size F offset (x ∷ xs))
+fits limit F (command.Truncate size) = nat_eq size F.size || can_have limit F size
+fits limit F _ = true
+
+-- it asks for the hasher's tree
+abbrev pub is_merkle : Command → Bool
+is_merkle command.Rebuild = true
+is_merkle command.Verify = true
+is_merkle command.Commitment = true
+is_merkle _ = false
+
+-- the command is valid: its numbers fit, no chunk that it needs is missing, and where it asks for the tree there is a limit, that is,
+-- a hasher
+abbrev pub valid : Option ℕ → File → Command → Bool
+valid limit F c = fits limit F c && none_missing (needed F c) 0 F.chunks && (not (is_merkle c) || is_some limit)
 
 -- the sum of what stands at the indexes that pass the test, from one on, this many
 abbrev pub sum_where : (ℕ → Bool) → (ℕ → ℕ) → ℕ → ℕ → ℕ

@@ -3,7 +3,9 @@ use Rattle.std.specs.Prelude.{◌≡◌, ℕ, ◌*◌, List, [], ◌∷◌, leng
 use Rattle.raf.specs.Source.{Takes}
 use Rattle.raf.specs.Cipher.{Cipher}
 use Rattle.raf.specs.File.{File}
-use Rattle.raf.specs.Apply.{replies_of, file_after, longest}
+use Rattle.raf.specs.Due.{AllAnswer}
+use Rattle.raf.specs.Concern.{no_limit}
+use Rattle.raf.specs.Apply.{due_to, file_after, longest}
 use Rattle.raf.specs.Image.{traced, asked_in, changes_in, traffic_in}
 use Rattle.raf.specs.Outside.{Outside, Quiet, Moved}
 use Rattle.raf.specs.Session.{AllAuthentic, AllShaped, shaped_size, Whole, Faulted, CutShort, begun}
@@ -20,14 +22,14 @@ shaped_end size (c ∷ commands) (r ∷ replies) = shaped_end (shaped_size size 
 
 -- commands without a fault so far, over a storage that tells
 pub record SoFar (C : Cipher) (key : List ℕ) (F : File) (b : List ℕ) (commands : List Command) (replies : List Reply) (k : Header) (old now : Outside) : Type 0 where
-  pub played : replies ≡ replies_of F commands
+  pub played : AllAnswer replies (due_to no_limit F commands)
   pub nonces : List ℕ
-  pub drawn : length nonces ≡ asked_in F commands
+  pub drawn : length nonces ≡ asked_in no_limit F commands
   pub taken : Takes old.left nonces now.left
-  pub tells : now.bytes ≡ Some (traced C key F commands nonces b)
-  pub holds : Holds C key (traced C key F commands nonces b) k (file_after F commands)
-  pub authentic : AllAuthentic C key F commands nonces b
-  pub moved : Moved old now (longest F commands) (traffic_in F commands) (asked_in F commands) (changes_in F commands)
+  pub tells : now.bytes ≡ Some (traced no_limit C key F commands nonces b)
+  pub holds : Holds C key (traced no_limit C key F commands nonces b) k (file_after no_limit F commands)
+  pub authentic : AllAuthentic no_limit C key F commands nonces b
+  pub moved : Moved old now (longest no_limit F commands) (traffic_in no_limit F commands) (asked_in no_limit F commands) (changes_in no_limit F commands)
   pub strays : now.strays ≡ old.strays
 
 -- commands without a fault so far, over any storage
@@ -40,8 +42,8 @@ pub record Progress (C : Cipher) (key : List ℕ) (h k : Header) (commands : Lis
 
 -- a run over a storage that tells
 pub record Ran (C : Cipher) (key : List ℕ) (F : File) (b : List ℕ) (commands : List Command) (before after : Outside) (replies : List Reply) : Type 0 where
-  pub run : Whole C key F b commands before after replies ⊎ Faulted C key F b commands before after replies
-  pub moved : Moved before after (longest F (begun commands replies)) (traffic_in F (begun commands replies)) (asked_in F (begun commands replies)) (changes_in F (begun commands replies))
+  pub run : Whole no_limit C key F b commands before after replies ⊎ Faulted no_limit C key F b commands before after replies
+  pub moved : Moved before after (longest no_limit F (begun commands replies)) (traffic_in no_limit F (begun commands replies)) (asked_in no_limit F (begun commands replies)) (changes_in no_limit F (begun commands replies))
   pub strays : after.strays ≡ before.strays
 
 -- a run over any storage

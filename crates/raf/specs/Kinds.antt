@@ -29,8 +29,3 @@ is_fault (Refused Io) = true
 is_fault (Refused Rng) = true
 is_fault (Refused Hash) = true
 is_fault _ = false
-
--- it says that the command was refused
-abbrev pub is_refused : Reply → Bool
-is_refused (Refused kind) = true
-is_refused _ = false

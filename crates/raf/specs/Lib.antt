@@ -9,6 +9,7 @@ pub mod Outside
 pub mod Cipher
 pub mod Header
 pub mod File
+pub mod Due
 pub mod Concern
 pub mod Apply
 pub mod Image

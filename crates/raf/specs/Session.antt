@@ -1,15 +1,17 @@
 -- What a session answers.
-use Rattle.std.specs.Prelude.{◌≡◌, ℕ, ◌+◌, ◌-◌, ◌*◌, ◌^◌, ◌<◌, ◌≤◌, min, max, Bool, true, false, List, [], ◌∷◌, ◌++◌, length, take, drop, slice_index, Option, Some, Result, IfOk, IfErr, ⊤, ◌⊎◌}
+use Rattle.std.specs.Prelude.{◌≡◌, ℕ, ◌+◌, ◌-◌, ◌*◌, ◌^◌, ◌<◌, ◌≤◌, min, max, false, if◌then◌else◌, nat_eq, List, [], ◌∷◌, ◌++◌, length, take, drop, slice_index, Option, Some, Result, IfOk, IfErr, ⊤, ◌⊎◌}
 use Rattle.raf.specs.Counts.{Rose}
 use Rattle.raf.specs.Source.{Takes, TakesAtMost}
 use Rattle.raf.specs.Cipher.{Cipher}
 use Rattle.raf.specs.Header.{Says, Tagged}
 use Rattle.raf.specs.File.{File, Opens, IsSealedFor, record_at, chunk_count, layout_len}
-use Rattle.raf.specs.Concern.{size_after, touched, needed, sum_where}
-use Rattle.raf.specs.Apply.{apply, replies_of, file_after, longest}
-use Rattle.raf.specs.Image.{traced, bytes_after, asked_by, asked_in, changes_in, traffic_in}
+use Rattle.raf.specs.Due.{Due, is_refused, is_barred, AllAnswer}
+use Rattle.raf.specs.Due.Due.{Exactly}
+use Rattle.raf.specs.Concern.{size_after, touched, needed, sum_where, no_limit}
+use Rattle.raf.specs.Apply.{apply, due_to, file_after, longest}
+use Rattle.raf.specs.Image.{is_change, traced, bytes_after, asked_by, asked_in, changes_in, traffic_in}
 use Rattle.raf.specs.Outside.{Outside, Kept, Quiet, Caused, Moved}
-use Rattle.raf.specs.Kinds.{is_refused, kind_of}
+use Rattle.raf.specs.Kinds.{kind_of}
 use Rattle.raf.specs.declared.format.header.Header.{Header}
 use Rattle.raf.specs.declared.command.Command.{Command}
 use Rattle.raf.specs.declared.command.Command.TheVariants as command
@@ -17,7 +19,7 @@ use Rattle.raf.specs.declared.command.Reply.{Reply}
 use Rattle.raf.specs.declared.command.Reply.TheVariants.{Bytes, Wrote, Size, Refused}
 use Rattle.raf.specs.declared.errors.Error.{Error}
 use Rattle.raf.specs.declared.errors.ErrorKind.{ErrorKind}
-use Rattle.raf.specs.declared.errors.ErrorKind.TheVariants.{Io, AuthenticationFailed, Overflow, MerkleNotEnabled, Rng, OutOfMemory, Unbuilt}
+use Rattle.raf.specs.declared.errors.ErrorKind.TheVariants.{Io, AuthenticationFailed, MerkleNotEnabled, Rng, OutOfMemory, Unbuilt}
 
 -- how many bytes a command reads at most
 abbrev pub read_len_of : Command → ℕ
@@ -76,66 +78,68 @@ pub record Refusal (C : Cipher) (key : List ℕ) (commands : List Command) (befo
   pub moved : Moved before after 96 96 0 0
   pub within : (b : List ℕ) → before.bytes ≡ Some b → (after.strays ≡ before.strays) × (after.reach ≤ max before.reach (length b))
 
--- numbers alone refuse the command, so that no fault can come first
-abbrev pub is_barred : Reply → Bool
-is_barred (Refused Unbuilt) = true
-is_barred (Refused Overflow) = true
-is_barred (Refused MerkleNotEnabled) = true
-is_barred _ = false
+-- calls of the storage beside those for the chunks that are needed and touched: a sync, and those for the chunks that a tree is made of or
+-- compared with
+abbrev pub other_calls : File → Command → ℕ
+other_calls F command.Sync = 1
+other_calls F command.Rebuild = length F.chunks
+other_calls F command.Verify = length F.chunks
+other_calls F _ = 0
 
 -- the command makes calls of the storage
 abbrev pub Concerned : File → Command → Type 0
 Concerned F c =
     1 ≤ sum_where (needed F c) (λ _. 1) 0 (chunk_count F.chunk_size F.size) + sum_where (touched F c) (λ _. 1) 0 (chunk_count F.chunk_size (size_after F c))
+    + (if nat_eq (size_after F c) F.size then 0 else 1) + other_calls F c
 
--- a fault that may come at a command: of the storage where it concerns chunks and numbers don't refuse it; of the random source where
+-- a fault that may come at a command: of the storage where it makes calls of it and numbers don't refuse it; of the random source where
 -- nothing refuses it and it asks for nonces
-abbrev pub Faultable : ErrorKind → File → Command → Type 0
-Faultable Io F c = (is_barred (apply F c).0 ≡ false) × Concerned F c
-Faultable Rng F c = (is_refused (apply F c).0 ≡ false) × (1 ≤ asked_by F c)
-Faultable _ F c = ⊥
+abbrev pub Faultable : Option ℕ → ErrorKind → File → Command → Type 0
+Faultable limit Io F c = (is_barred (apply limit F c).0 ≡ false) × Concerned F c
+Faultable limit Rng F c = (is_refused (apply limit F c).0 ≡ false) × (1 ≤ asked_by limit F c)
+Faultable limit _ F c = ⊥
 
--- what a command leaves, also where a fault cuts it short: all bytes where it touches no chunk, and the header where the size stays;
--- and each record that it doesn't touch
+-- what a command leaves, also where a fault cuts it short: all bytes where it changes nothing, and the header where the size stays;
+-- and each record that it neither touches nor removes
 pub record Spares (F : File) (c : Command) (old new : List ℕ) : Type 0 where
-  pub untouched : sum_where (touched F c) (λ _. 1) 0 (chunk_count F.chunk_size (size_after F c)) ≡ 0 → new ≡ old
+  pub untouched : is_change F c ≡ false → new ≡ old
   pub header : size_after F c ≡ F.size → take 96 new ≡ take 96 old
   pub records : (index : ℕ) → index < chunk_count F.chunk_size F.size → index < chunk_count F.chunk_size (size_after F c) → touched F c index ≡ false
       → record_at F.nonce_len F.chunk_size F.size index new ≡ record_at F.nonce_len F.chunk_size F.size index old
 
 -- each byte that a read answers is a byte of a chunk whose record, in this storage, is its sealed form
-abbrev pub Authentic : Cipher → List ℕ → List ℕ → File → Command → Reply → Type 0
-Authentic C key b F (command.Read offset len) (Bytes got) = (k : ℕ) → k < length got →
+abbrev pub Authentic : Cipher → List ℕ → List ℕ → File → Command → Due → Type 0
+Authentic C key b F (command.Read offset len) (Exactly (Bytes got)) = (k : ℕ) → k < length got →
     (index : ℕ) × (m : List ℕ) × (index * F.chunk_size ≤ offset + k) × (offset + k < index * F.chunk_size + length m)
     × (slice_index got k ≡ slice_index m (offset + k - index * F.chunk_size))
     × IsSealedFor C key F.id index (record_at F.nonce_len F.chunk_size F.size index b) m
-Authentic C key b F c reply = ⊤
+Authentic C key b F c due = ⊤
 
 -- the same of each command, in the storage as it began
-abbrev pub AllAuthentic : Cipher → List ℕ → File → List Command → List ℕ → List ℕ → Type 0
-AllAuthentic C key F [] nonces b = ⊤
-AllAuthentic C key F (c ∷ commands) nonces b =
-    Authentic C key b F c (apply F c).0
-    × AllAuthentic C key (apply F c).1 commands (drop (asked_by F c) nonces) (bytes_after C key F c (take (asked_by F c) nonces) b)
+abbrev pub AllAuthentic : Option ℕ → Cipher → List ℕ → File → List Command → List ℕ → List ℕ → Type 0
+AllAuthentic limit C key F [] nonces b = ⊤
+AllAuthentic limit C key F (c ∷ commands) nonces b =
+    Authentic C key b F c (apply limit F c).0
+    × AllAuthentic limit C key (apply limit F c).1 commands (drop (asked_by limit F c) nonces) (bytes_after limit C key F c (take (asked_by limit F c) nonces) b)
 
--- commands and their replies without a fault, over a storage that tells its bytes: the replies are those of play; the storage is the
+-- commands and their replies without a fault, over a storage that tells its bytes: the replies are those that are due; the storage is the
 -- trace's under the nonces that were taken, and opens to play's file; and what was read is authentic
-pub record Course (C : Cipher) (key : List ℕ) (F : File) (b : List ℕ) (commands : List Command) (replies : List Reply) (nonces : List ℕ) : Type 0 where
-  pub played : replies ≡ replies_of F commands
-  pub drawn : length nonces ≡ asked_in F commands
-  pub opens : Opens C key (traced C key F commands nonces b) (file_after F commands)
-  pub authentic : AllAuthentic C key F commands nonces b
+pub record Course (limit : Option ℕ) (C : Cipher) (key : List ℕ) (F : File) (b : List ℕ) (commands : List Command) (replies : List Reply) (nonces : List ℕ) : Type 0 where
+  pub played : AllAnswer replies (due_to limit F commands)
+  pub drawn : length nonces ≡ asked_in limit F commands
+  pub opens : Opens C key (traced limit C key F commands nonces b) (file_after limit F commands)
+  pub authentic : AllAuthentic limit C key F commands nonces b
 
 -- no fault: there is a reply to each command, and the storage opens to the file in the end
-pub record Whole (C : Cipher) (key : List ℕ) (F : File) (b : List ℕ) (commands : List Command) (before after : Outside) (replies : List Reply) : Type 0 where
+pub record Whole (limit : Option ℕ) (C : Cipher) (key : List ℕ) (F : File) (b : List ℕ) (commands : List Command) (before after : Outside) (replies : List Reply) : Type 0 where
   pub nonces : List ℕ
-  pub course : Course C key F b commands replies nonces
-  pub bytes : after.bytes ≡ Some (traced C key F commands nonces b)
+  pub course : Course limit C key F b commands replies nonces
+  pub bytes : after.bytes ≡ Some (traced limit C key F commands nonces b)
   pub left : Takes before.left nonces after.left
   pub quiet : Quiet before after
 
--- the first fault is the last reply: it came at this command, after these replies of play
-pub record Faulted (C : Cipher) (key : List ℕ) (F : File) (b : List ℕ) (commands : List Command) (before after : Outside) (replies : List Reply) : Type 0 where
+-- the first fault is the last reply: it came at this command, after replies that were due
+pub record Faulted (limit : Option ℕ) (C : Cipher) (key : List ℕ) (F : File) (b : List ℕ) (commands : List Command) (before after : Outside) (replies : List Reply) : Type 0 where
   pub done : List Command
   pub command : Command
   pub rest : List Command
@@ -144,30 +148,30 @@ pub record Faulted (C : Cipher) (key : List ℕ) (F : File) (b : List ℕ) (comm
   pub kind : ErrorKind
   pub last : replies ≡ answered ++ Refused kind ∷ []
   pub nonces : List ℕ
-  pub course : Course C key F b done answered nonces
+  pub course : Course limit C key F b done answered nonces
   pub cause : Caused kind before after
-  pub due : Faultable kind (file_after F done) command
+  pub due : Faultable limit kind (file_after limit F done) command
   pub middle : Option (List ℕ)
   pub taken : Takes before.left nonces middle
-  pub left : TakesAtMost middle (asked_by (file_after F done) command) after.left
+  pub left : TakesAtMost middle (asked_by limit (file_after limit F done) command) after.left
   pub bytes : List ℕ
   pub tells : after.bytes ≡ Some bytes
-  pub spares : Spares (file_after F done) command (traced C key F done nonces b) bytes
+  pub spares : Spares (file_after limit F done) command (traced limit C key F done nonces b) bytes
 
 -- the commands that were answered
 abbrev pub begun : List Command → List Reply → List Command
 begun commands replies = take (length replies) commands
 
 -- a session over a storage that tells its bytes: the file that they open to, and the run; and the most that was asked
-pub record Answered (C : Cipher) (key : List ℕ) (b : List ℕ) (commands : List Command) (before after : Outside) (replies : List Reply) : Type 0 where
+pub record Answered (limit : Option ℕ) (C : Cipher) (key : List ℕ) (b : List ℕ) (commands : List Command) (before after : Outside) (replies : List Reply) : Type 0 where
   pub file : File
   pub opens : Opens C key b file
   pub one_chunk : file.size ≤ file.chunk_size
-  pub run : Whole C key file b commands before after replies ⊎ Faulted C key file b commands before after replies
-  pub reach : after.reach ≤ max before.reach (longest file (begun commands replies))
-  pub traffic : after.traffic ≤ before.traffic + 96 + traffic_in file (begun commands replies)
-  pub asked : after.asked ≤ before.asked + asked_in file (begun commands replies)
-  pub changes : after.changes ≤ before.changes + changes_in file (begun commands replies)
+  pub run : Whole limit C key file b commands before after replies ⊎ Faulted limit C key file b commands before after replies
+  pub reach : after.reach ≤ max before.reach (longest limit file (begun commands replies))
+  pub traffic : after.traffic ≤ before.traffic + 96 + traffic_in limit file (begun commands replies)
+  pub asked : after.asked ≤ before.asked + asked_in limit file (begun commands replies)
+  pub changes : after.changes ≤ before.changes + changes_in limit file (begun commands replies)
   pub strays : after.strays ≡ before.strays
 
 -- the reply to a command by numbers alone, over a file of this chunk size and this file size
@@ -231,9 +235,9 @@ pub record ByNumbers (nonce_len : ℕ) (commands : List Command) (before after :
   pub later : Moved before after after.reach after.traffic after.asked after.changes
   pub asked : after.asked ≤ before.asked + nonce_len * length replies
 
--- a session of a key and commands, from one state of storage and random source to another
+-- a session of a key and commands without a hasher, from one state of storage and random source to another
 pub record Meets (C : Cipher) (key : List ℕ) (commands : List Command) (before after : Outside) (outcome : Result (List Reply) Error) : Type 0 where
   pub refused : IfErr outcome (λ e. Refusal C key commands before after (kind_of e))
   pub fits : IfOk outcome (λ _. read_total commands < 2 ^ 64)
-  pub answered : (b : List ℕ) → before.bytes ≡ Some b → IfOk outcome (λ replies. Answered C key b commands before after replies)
+  pub answered : (b : List ℕ) → before.bytes ≡ Some b → IfOk outcome (λ replies. Answered no_limit C key b commands before after replies)
   pub numbers : IfOk outcome (λ replies. ByNumbers C.nonce_len commands before after replies)

@@ -5,6 +5,8 @@ use Rattle.raf.specs.Source.{Takes, TakesAtMost}
 use Rattle.raf.specs.Cipher.{Cipher}
 use Rattle.raf.specs.Header.{sealed_header}
 use Rattle.raf.specs.File.{File, IsFile, beside, sealed, record_at, chunk_count, file_layout}
+use Rattle.raf.specs.Due.{Answers}
+use Rattle.raf.specs.Concern.{no_limit}
 use Rattle.raf.specs.Apply.{apply, overlaid}
 use Rattle.raf.specs.Image.{bytes_after, asked_by, changes_by, traffic_by}
 use Rattle.raf.specs.Outside.{Outside, Quiet, Caused, Moved}
@@ -71,25 +73,25 @@ room_for _ = []
 
 -- a command that was answered without a fault
 pub record Done (C : Cipher) (key : List ℕ) (k : Header) (old new : Outside) (F : File) (b : List ℕ) (c : Command) (reply : Reply) : Type 0 where
-  pub due : reply ≡ (apply F c).0
+  pub due : Answers reply (apply no_limit F c).0
   pub nonces : List ℕ
-  pub drawn : length nonces ≡ asked_by F c
+  pub drawn : length nonces ≡ asked_by no_limit F c
   pub taken : Takes old.left nonces new.left
-  pub tells : new.bytes ≡ Some (bytes_after C key F c nonces b)
-  pub holds : Holds C key (bytes_after C key F c nonces b) k (apply F c).1
-  pub authentic : Authentic C key b F c (apply F c).0
+  pub tells : new.bytes ≡ Some (bytes_after no_limit C key F c nonces b)
+  pub holds : Holds C key (bytes_after no_limit C key F c nonces b) k (apply no_limit F c).1
+  pub authentic : Authentic C key b F c (apply no_limit F c).0
 
 -- one that a fault cut short
 pub record Cut (kind : ErrorKind) (old new : Outside) (F : File) (b : List ℕ) (c : Command) : Type 0 where
-  pub due : Faultable kind F c
-  pub left : TakesAtMost old.left (asked_by F c) new.left
+  pub due : Faultable no_limit kind F c
+  pub left : TakesAtMost old.left (asked_by no_limit F c) new.left
   pub bytes : List ℕ
   pub tells : new.bytes ≡ Some bytes
   pub spares : Spares F c b bytes
 
 -- the most that it asked
 pub record Bounded (old new : Outside) (F : File) (c : Command) : Type 0 where
-  pub moved : Moved old new (max (file_layout F) (file_layout (apply F c).1)) (traffic_by F c) (asked_by F c) (changes_by F c)
+  pub moved : Moved old new (max (file_layout F) (file_layout (apply no_limit F c).1)) (traffic_by no_limit F c) (asked_by no_limit F c) (changes_by no_limit F c)
   pub strays : new.strays ≡ old.strays
 
 -- the fault in a reply

@@ -22,8 +22,8 @@ use std::marker::PhantomData;
 
 /// What a file is opened with: a source of random bytes, and a hasher where it has one. No call gives it a hasher yet.
 pub struct RafBuilder<A: Algorithm, R: RafRng, H: MerkleHasher> {
-    pub rng: R,
-    pub hasher: Option<H>,
+    rng: R,
+    hasher: Option<H>,
     chunk_size: u32,
     algorithm: PhantomData<A>,
 }

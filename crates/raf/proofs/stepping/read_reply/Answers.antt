@@ -2,6 +2,7 @@ use Rattle.std.proofs.Common.{◌≡◌, inl, inr, ℕ, ◌+◌, ◌-◌, ◌<�
 use Rattle.std.proofs.lemmas.List.{length-replicate}
 use Rattle.raf.specs.Cipher.{cipher_of}
 use Rattle.raf.specs.File.{File}
+use Rattle.raf.specs.Due.Due.{Exactly}
 use Rattle.raf.specs.Loaded.{Loaded}
 use Rattle.raf.specs.declared.command.Command.TheVariants.{Read}
 use Rattle.raf.specs.declared.command.Reply.TheVariants.{Bytes}
@@ -34,7 +35,7 @@ returns-then-offset-size-clause-stepped g c = λ len room.
     (λ F b told held.
     let size : F.size ≡ h.file_size = ap (λ (f : File). f.size) held.file in
     record {
-      is = read_nothing F c.args.offset len (omega (arith, size, le)) ∙ ap (λ (l : List ℕ). (Bytes l, F)) (sym bytes);
+      is = read_nothing F c.args.offset len (omega (arith, size, le)) ∙ ap (λ (l : List ℕ). (Exactly (Bytes l), F)) (sym bytes);
       rests = inr (refl, λ i. refl);
       authentic = λ k below. absurd (omega (arith, below, none));
       ends = omega arith;
@@ -124,7 +125,7 @@ returns-clause-stepped g c = λ len room.
     let w = within_file C key b h F (Read offset len) held had one (read_needs F offset len some_F one_F) in
     let got : take (min (offset + len) F.size - offset) (drop offset m) ≡ c.from_vec-2.result = ap (λ (k : ℕ). take (min (offset + len) k - offset) (drop offset m)) size ∙ copied in
     record {
-      is = read_there F offset len some_F one_F m (chunks_loaded C key b h F chunk_key (Some m) held file.derived had one (c.in-Ok.ensures.loaded b told)) ∙ ap (λ (l : List ℕ). (Bytes l, F)) got;
+      is = read_there F offset len some_F one_F m (chunks_loaded C key b h F chunk_key (Some m) held file.derived had one (c.in-Ok.ensures.loaded b told)) ∙ ap (λ (l : List ℕ). (Exactly (Bytes l), F)) got;
       rests = inr (refl, λ i. refl);
       authentic = authentic_piece C (lawful g.A.Algorithm.variant) key b h F chunk_key offset len m c.from_vec-2.result held file.derived one (c.in-Ok.ensures.loaded b told) long (sym got);
       ends = w.end;

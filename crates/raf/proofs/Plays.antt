@@ -1,0 +1,108 @@
+-- Worked sessions over files of many chunks, with a hasher and without one, computed by the definitions.
+use Rattle.std.proofs.Common.{◌≡◌, ℕ, Bool, ◌-◌, ◌^◌, List, [], ◌∷◌, ◌++◌, replicate, Option, Some, None, refl}
+use Rattle.raf.specs.File.{File, chunk_count, file_layout}
+use Rattle.raf.specs.Due.{Due}
+use Rattle.raf.specs.Due.Due.{Exactly, Merkle}
+use Rattle.raf.specs.Concern.{no_limit, size_after, touched, needed, sum_where}
+use Rattle.raf.specs.Apply.{apply_built}
+use Rattle.raf.specs.Image.{traffic_by}
+use Rattle.raf.specs.declared.command.Command.{Command}
+use Rattle.raf.specs.declared.command.Command.TheVariants as command
+use Rattle.raf.specs.declared.command.Reply.TheVariants.{Bytes, Wrote, Done, Size, Refused}
+use Rattle.raf.specs.declared.errors.ErrorKind.TheVariants.{AuthenticationFailed, Overflow, MerkleNotEnabled}
+
+-- play, with all that is to be built
+abbrev dues : Option ℕ → File → List Command → List Due
+dues limit F [] = []
+dues limit F (c ∷ commands) = (apply_built limit F c).0 ∷ dues limit (apply_built limit F c).1 commands
+
+abbrev last : Option ℕ → File → List Command → File
+last limit F [] = F
+last limit F (c ∷ commands) = last limit (apply_built limit F c).1 commands
+
+abbrev count_of : (File → Command → ℕ → Bool) → File → Command → ℕ
+count_of test F c = sum_where (test F c) (λ _. 1) 0 (chunk_count F.chunk_size (size_after F c))
+
+abbrev file : ℕ → ℕ → List (Option (List ℕ)) → File
+file chunk_size size chunks = record { nonce_len = 16; chunk_size = chunk_size; id = replicate 32 0; size = size; chunks = chunks }
+
+abbrev empty : File
+empty = file 16 0 []
+
+-- a gap over two chunks
+gap_dues : dues no_limit empty (command.Write 20 (0x5a ∷ []) ∷ command.Size ∷ command.Read 0 21 ∷ [])
+    ≡ Exactly (Wrote 1) ∷ Exactly (Size 21) ∷ Exactly (Bytes (replicate 20 0 ++ 0x5a ∷ [])) ∷ []
+gap_dues = refl
+
+gap_storage : file_layout (last no_limit empty (command.Write 20 (0x5a ∷ []) ∷ [])) ≡ 181
+gap_storage = refl
+
+gap_nonces : count_of touched empty (command.Write 20 (0x5a ∷ [])) ≡ 2
+gap_nonces = refl
+
+-- the end of all positions
+far_dues : dues no_limit empty (command.Write (2 ^ 64 - 1) [] ∷ command.Write (2 ^ 64 - 1) (0x5a ∷ []) ∷ command.Size ∷ [])
+    ≡ Exactly (Wrote 0) ∷ Exactly (Refused Overflow) ∷ Exactly (Size 0) ∷ []
+far_dues = refl
+
+-- three chunks, the middle one damaged
+abbrev damaged : File
+damaged = file 16 48 (Some (replicate 16 1) ∷ None ∷ Some (replicate 16 3) ∷ [])
+
+damaged_dues : dues no_limit damaged
+    (command.Read 0 16 ∷ command.Read 8 16 ∷ command.Write 20 (0xaa ∷ []) ∷ command.Write 16 (replicate 16 2) ∷ command.Read 8 16 ∷ [])
+    ≡ Exactly (Bytes (replicate 16 1)) ∷ Exactly (Refused AuthenticationFailed) ∷ Exactly (Refused AuthenticationFailed) ∷ Exactly (Wrote 16)
+    ∷ Exactly (Bytes (replicate 8 1 ++ replicate 8 2)) ∷ []
+damaged_dues = refl
+
+damaged_stays : last no_limit damaged (command.Read 8 16 ∷ command.Write 20 (0xaa ∷ []) ∷ []) ≡ damaged
+damaged_stays = refl
+
+-- 33 bytes, cut and made longer
+abbrev long : File
+long = file 16 33 (Some (replicate 16 1) ∷ Some (replicate 16 2) ∷ Some (3 ∷ []) ∷ [])
+
+cut_whole : last no_limit long (command.Truncate 16 ∷ []) ≡ file 16 16 (Some (replicate 16 1) ∷ [])
+cut_whole = refl
+
+cut_whole_nonces : count_of touched long (command.Truncate 16) ≡ 0
+cut_whole_nonces = refl
+
+cut_whole_storage : file_layout (last no_limit long (command.Truncate 16 ∷ [])) ≡ 144
+cut_whole_storage = refl
+
+cut : last no_limit long (command.Truncate 17 ∷ command.Truncate 17 ∷ []) ≡ file 16 17 (Some (replicate 16 1) ∷ Some (2 ∷ []) ∷ [])
+cut = refl
+
+cut_nonces : count_of touched long (command.Truncate 17) ≡ 1
+cut_nonces = refl
+
+cut_needs : count_of needed long (command.Truncate 17) ≡ 1
+cut_needs = refl
+
+cut_storage : file_layout (last no_limit long (command.Truncate 17 ∷ [])) ≡ 177
+cut_storage = refl
+
+longer : last no_limit long (command.Truncate 17 ∷ command.Truncate 33 ∷ []) ≡ file 16 33 (Some (replicate 16 1) ∷ Some (2 ∷ replicate 15 0) ∷ Some (0 ∷ []) ∷ [])
+longer = refl
+
+longer_nonces : count_of touched (last no_limit long (command.Truncate 17 ∷ [])) (command.Truncate 33) ≡ 2
+longer_nonces = refl
+
+made_longer : dues no_limit empty (command.Truncate 17 ∷ command.Sync ∷ command.Read 16 5 ∷ []) ≡ Exactly Done ∷ Exactly Done ∷ Exactly (Bytes (0 ∷ [])) ∷ []
+made_longer = refl
+
+-- a hasher for four chunks at most
+hashed_dues : dues (Some 4) empty
+    (command.Write 0 (replicate 48 7) ∷ command.Commitment ∷ command.Verify ∷ command.Rebuild ∷ command.Commitment ∷ command.Write 64 (0xaa ∷ []) ∷ command.Truncate 65 ∷ command.Truncate 64 ∷ [])
+    ≡ Exactly (Wrote 48) ∷ Merkle ∷ Merkle ∷ Merkle ∷ Merkle ∷ Exactly (Refused Overflow) ∷ Exactly (Refused Overflow) ∷ Exactly Done ∷ []
+hashed_dues = refl
+
+-- and none
+unhashed_dues : dues no_limit empty (command.Commitment ∷ command.Verify ∷ command.Rebuild ∷ [])
+    ≡ Exactly (Refused MerkleNotEnabled) ∷ Exactly (Refused MerkleNotEnabled) ∷ Exactly (Refused MerkleNotEnabled) ∷ []
+unhashed_dues = refl
+
+-- 100 bytes over the border of two chunks of an ordinary file
+ordinary_traffic : traffic_by no_limit (file 65536 200000 []) (command.Write 131000 (replicate 100 1)) ≡ 262272
+ordinary_traffic = refl
