@@ -30,7 +30,7 @@ impl<
     const TAG_BYTES: usize,
 > Decryptor<'a, K, S, KEY_BYTES, TAG_BYTES> {
     /// The empty cipher text under key and nonce, after associated data, into `plaintext`.
-    pub fn start(
+    pub(crate) fn start(
         key: &[u8; KEY_BYTES],
         nonce: &[u8; KEY_BYTES],
         associated_data: &[u8],

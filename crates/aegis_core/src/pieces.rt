@@ -197,7 +197,7 @@ impl<S: LaneState> Pieces<S> {
     }
 
     /// Overwrites the state with zeros.
-    pub fn clear(&mut self) {
+    pub(crate) fn clear(&mut self) {
         self.lanes.clear();
         self.block = [0; 128];
         self.total = 0;
