@@ -23,7 +23,7 @@ impl<
     const KEY_BYTES: usize,
     const TAG_BYTES: usize,
 > Encryptor<K, S, KEY_BYTES, TAG_BYTES> {
-    /// The empty message under key and nonce, after associated data.
+    // The empty message under key and nonce, after associated data.
     pub(crate) fn start(
         key: &[u8; KEY_BYTES],
         nonce: &[u8; KEY_BYTES],

@@ -87,7 +87,7 @@ impl<'a> Quarantine<'a> {
         &mut buf[..len]
     }
 
-    /// Overwrites the written bytes with zeros and forgets them.
+    // Overwrites the written bytes with zeros and forgets them.
     pub(crate) fn zero(&mut self)
         ensures bytes { self.new.bytes ≡ [] }
         ensures capacity { self.new.capacity ≡ self.old.capacity }
