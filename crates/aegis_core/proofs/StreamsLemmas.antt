@@ -1,5 +1,5 @@
 -- What the calls of messages in pieces give, in the words of the ciphers.
-use Rattle.std.proofs.Common.{◌≡◌, ◌+◌, ◌*◌, ◌-◌, ◌<◌, ◌≤◌, ◌++◌, ℕ, List, [], length, take, drop, refl, sym, ap, ◌∙◌, arith, length-append, length-drop, subst}
+use Rattle.std.proofs.Common.{◌≡◌, ◌+◌, ◌-◌, ◌<◌, ◌≤◌, ◌++◌, ℕ, List, [], length, take, drop, refl, sym, ap, ◌∙◌, arith, length-append, length-drop, subst}
 use Rattle.std.proofs.lemmas.List.{take-append-drop, take_at, drop_at, length-take-le}
 use Rattle.std.proofs.lemmas.Slice.{take-put_mid, take-put_mid_below}
 use borrow.Rule.Slice.PartMut.{put_mid}
@@ -11,7 +11,7 @@ use Rattle.aegis_core.specs.Streams.{Decrypts}
 use Rattle.aegis_core.specs.declared.pieces.Pieces.{Pieces}
 use Rattle.aegis_core.specs.declared.decryptor.Decryptor.{Decryptor}
 use Rattle.aegis_core.specs.declared.variant.Variant.{Variant}
-use Rattle.aegis_core.proofs.OneText.{length-cipher_text, one_text}
+use Rattle.aegis_core.proofs.OneText.{one_text}
 use Rattle.aegis_core.proofs.FrontLemmas.{cipher_front}
 use Rattle.aegis_core.proofs.TagLengths.{sound}
 

@@ -11,5 +11,6 @@ pub mod Keys
 pub mod Laws
 pub mod Ciphers
 pub mod Pieces
+pub mod MessageLength
 pub mod Written
 pub mod Streams

@@ -1,7 +1,7 @@
 //! Absorbing, encrypting and decrypting whole inputs, block by block.
 
 ghost use Rattle.std.specs.Bool.{OnTrue, OnFalse};
-ghost use Rattle.std.specs.Prelude.{◌≡◌, ◌≢◌, ◌⊎◌, ℕ, ◌*◌, ◌^◌, ◌<◌, List, length, replicate, Some, None};
+ghost use Rattle.std.specs.Prelude.{◌≡◌, ◌≢◌, ◌⊎◌, ℕ, ◌*◌, ◌^◌, ◌<◌, List, length, replicate};
 ghost use Rattle.aes_spec.specs.Bytes.{xor_bytes};
 ghost use Rattle.aegis_core.specs.Family.{absorbed, cipher_text, sealed_by, mac_by, stream_by};
 ghost use Rattle.aegis_core.specs.Tail.{absorbed_tail};

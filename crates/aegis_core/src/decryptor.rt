@@ -1,6 +1,6 @@
 //! A cipher text that is decrypted piece by piece into a lent destination.
 
-ghost use Rattle.std.specs.Prelude.{◌≡◌, ◌⊎◌, ◌↔◌, ℕ, ◌+◌, ◌^◌, ◌<◌, ◌≤◌, ◌++◌, List, [], length, Some, None, IsOk, IfOk, IfErr, OnOk, OnErr};
+ghost use Rattle.std.specs.Prelude.{◌≡◌, ◌⊎◌, ◌↔◌, ℕ, ◌+◌, ◌^◌, ◌<◌, ◌≤◌, ◌++◌, List, [], length, take, Some, None, IsOk, IfOk, IfErr, OnOk, OnErr};
 ghost use Rattle.aegis_core.specs.Sealing.{Unseals};
 ghost use Rattle.aegis_core.specs.Streams.{Decrypts, decrypted_total, decrypted_bytes, decrypted_room, RefusesPiece};
 
@@ -29,8 +29,8 @@ impl<
     const KEY_BYTES: usize,
     const TAG_BYTES: usize,
 > Decryptor<'a, K, S, KEY_BYTES, TAG_BYTES> {
-    /// The empty cipher text under key and nonce, after associated data, into `plaintext`.
-    pub fn start(
+    // The empty cipher text under key and nonce, after associated data, into `plaintext`.
+    pub(crate) fn start(
         key: &[u8; KEY_BYTES],
         nonce: &[u8; KEY_BYTES],
         associated_data: &[u8],
@@ -58,6 +58,8 @@ impl<
         ensures stays { OnErr result (self.new ≡ self.old) }
         ensures total { OnOk result (decrypted_total self.new ≡ decrypted_total self.old + length ciphertext.now) }
         ensures room { OnOk result (decrypted_room self.new ≡ decrypted_room self.old) }
+        ensures long { OnOk result (length (decrypted_bytes self.new) ≡ length (decrypted_bytes self.old) + length ciphertext.now) }
+        ensures kept { OnOk result (take (length (decrypted_bytes self.old)) (decrypted_bytes self.new) ≡ decrypted_bytes self.old) }
         ensures holds { (key nonce ad c : List ℕ) → Decrypts S.family S.lanes K.variant self.old key nonce ad c
             → OnOk result (Decrypts S.family S.lanes K.variant self.new key nonce ad (c ++ ciphertext.now)) }
     {

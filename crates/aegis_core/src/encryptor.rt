@@ -23,8 +23,12 @@ impl<
     const KEY_BYTES: usize,
     const TAG_BYTES: usize,
 > Encryptor<K, S, KEY_BYTES, TAG_BYTES> {
-    /// The empty message under key and nonce, after associated data.
-    pub fn start(key: &[u8; KEY_BYTES], nonce: &[u8; KEY_BYTES], associated_data: &[u8]) -> Self
+    // The empty message under key and nonce, after associated data.
+    pub(crate) fn start(
+        key: &[u8; KEY_BYTES],
+        nonce: &[u8; KEY_BYTES],
+        associated_data: &[u8],
+    ) -> Self
         requires { length associated_data.now < 2 ^ 61 }
         ensures total { encrypted_total result ≡ 0 }
         ensures holds { Encrypts S.family S.lanes K.variant result key.now nonce.now associated_data.now [] }

@@ -1,7 +1,6 @@
 //! What tells one cipher from another.
 
 ghost use Rattle.std.specs.Prelude.{◌≡◌};
-ghost use Rattle.aegis_core.specs.Family.{Family};
 ghost use Rattle.aegis_core.specs.Sealing.{family_of, key_len, nonce_len};
 ghost use Rattle.aegis_core.specs.declared.variant.Variant.{Variant};
 

@@ -1,6 +1,6 @@
 //! What sealing needs of the lanes of a family.
 
-ghost use Rattle.std.specs.Prelude.{◌≡◌, ◌⊎◌, ℕ, ◌<◌, ◌≤◌, length};
+ghost use Rattle.std.specs.Prelude.{◌≡◌, ◌⊎◌, ◌<◌, ◌≤◌, length};
 ghost use Rattle.aes_spec.specs.Bytes.{xor_bytes};
 ghost use Rattle.aegis_core.specs.Lanes.{State};
 ghost use Rattle.aegis_core.specs.Family.{Family};

@@ -1,11 +1,11 @@
 //! The lanes of the AEGIS-128 family.
 
-ghost use Rattle.std.specs.Prelude.{◌≡◌, ◌⊎◌, ℕ, ◌+◌, ◌*◌, ◌<◌, ◌≤◌, ◌++◌, List, [], length, take, drop, fold, map};
+ghost use Rattle.std.specs.Prelude.{◌≡◌, ℕ, ◌*◌, ◌<◌, ◌≤◌, fold, map};
 ghost use Rattle.std.specs.List.{flat_map};
 ghost use Rattle.aes_spec.specs.Bytes.{xor_bytes};
-ghost use Rattle.aegis_core.specs.Lanes.{IsLaneCount, State, lengths, xor_all};
+ghost use Rattle.aegis_core.specs.Lanes.{IsLaneCount, lengths, xor_all};
 ghost use Rattle.aegis_core.specs.Lanes128.{part_128, update_lane_128, initial_lane_128, initial_128, z0, z1, final_lane_128};
-ghost use Rattle.aegis_core.specs.Family.{Family, family_128};
+ghost use Rattle.aegis_core.specs.Family.{family_128};
 ghost use Rattle.aegis_core.specs.Held.{lane_count, lane_of_128, lanes_of_128, lanes_family_128, row_bytes};
 
 use crate::blocks::{C0, C1, context_block, length_block};

@@ -1,11 +1,11 @@
 //! The lanes of the AEGIS-256 family.
 
-ghost use Rattle.std.specs.Prelude.{◌≡◌, ◌⊎◌, ℕ, ◌+◌, ◌*◌, ◌<◌, ◌≤◌, List, [], length, take, drop, fold, map};
+ghost use Rattle.std.specs.Prelude.{◌≡◌, ℕ, ◌*◌, ◌<◌, ◌≤◌, fold, map};
 ghost use Rattle.std.specs.List.{flat_map};
 ghost use Rattle.aes_spec.specs.Bytes.{xor_bytes};
-ghost use Rattle.aegis_core.specs.Lanes.{IsLaneCount, State, lengths, xor_all};
+ghost use Rattle.aegis_core.specs.Lanes.{IsLaneCount, lengths, xor_all};
 ghost use Rattle.aegis_core.specs.Lanes256.{part_256, update_lane_256, mixed_lane_256, initial_halves_256, initial_256, z, final_lane_256};
-ghost use Rattle.aegis_core.specs.Family.{Family, family_256};
+ghost use Rattle.aegis_core.specs.Family.{family_256};
 ghost use Rattle.aegis_core.specs.Held.{lane_count, lane_of_256, lanes_of_256, lanes_family_256, row_bytes};
 
 use crate::blocks::{C0, C1, context_block, length_block};

@@ -1,6 +1,6 @@
 //! How long a message may be.
 
-ghost use Rattle.std.specs.Prelude.{◌≡◌, ◌↔◌, ◌+◌, ◌^◌, ◌<◌, ⊤, IsTrue, IsOk, OnOk, OnErr, IfErr};
+ghost use Rattle.std.specs.Prelude.{◌≡◌, ◌+◌, ◌^◌, ◌<◌, ⊤};
 
 use crate::error::Error;
 use std::alloc::AllocError;
@@ -27,23 +27,26 @@ impl Clone for MessageLength {
 impl Copy for MessageLength {}
 
 impl MessageLength {
+    ghost use Rattle.std.specs.Prelude.{◌↔◌, IsTrue, IsOk, OnOk, OnErr, IfErr};
+    ghost use Rattle.aegis_core.specs.MessageLength.{message_total};
+
     /// No bytes yet.
     pub fn new() -> MessageLength
-        ensures { result.total ≡ 0 }
+        ensures { message_total result ≡ 0 }
     {
         MessageLength { total: 0 }
     }
 
     /// The total, in bytes.
     pub fn total(&self) -> u64
-        ensures { result ≡ self.now.total }
+        ensures { result ≡ message_total self.now }
     {
         self.total
     }
 
     /// Whether the total with `len` more bytes is at most 2^61 - 1.
     pub fn fits(&self, len: usize) -> bool
-        ensures { IsTrue result ↔ (self.now.total + len < 2 ^ 61) }
+        ensures { IsTrue result ↔ (message_total self.now + len < 2 ^ 61) }
     {
         len as u64 <= MOST - self.total
     }
@@ -51,8 +54,8 @@ impl MessageLength {
     /// Adds `len` bytes to the total. `MessageTooLong` exactly where they do not fit; the total then
     /// stays.
     pub fn try_add(&mut self, len: usize) -> Result<(), Error>
-        ensures ok { IsOk result ↔ (self.old.total + len < 2 ^ 61) }
-        ensures adds { OnOk result (self.new.total ≡ self.old.total + len) }
+        ensures ok { IsOk result ↔ (message_total self.old + len < 2 ^ 61) }
+        ensures adds { OnOk result (message_total self.new ≡ message_total self.old + len) }
         ensures stays { OnErr result (self.new ≡ self.old) }
         ensures refused { IfErr result (λ e. e ≡ Error.MessageTooLong) }
     {

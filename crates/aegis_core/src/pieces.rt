@@ -47,7 +47,7 @@ fn part_len(left: usize, room: usize) -> usize
 }
 
 impl<S: LaneState> Pieces<S> {
-    ghost use Rattle.std.specs.Prelude.{◌≡◌, ◌⊎◌, ◌↔◌, ℕ, ◌+◌, ◌%◌, ◌++◌, List, [], length, drop, IsTrue};
+    ghost use Rattle.std.specs.Prelude.{◌≡◌, ◌⊎◌, ◌↔◌, ℕ, ◌+◌, ◌%◌, ◌++◌, List, [], length, drop, replicate, IsTrue};
     ghost use Rattle.aegis_core.specs.Family.{Family, absorbed, cipher_text, keyed, sealed_by, mac_by};
     ghost use Rattle.aegis_core.specs.Pieces.{Holds, total_of};
 
@@ -196,8 +196,13 @@ impl<S: LaneState> Pieces<S> {
         }
     }
 
-    /// Overwrites the state with zeros.
-    pub fn clear(&mut self) {
+    // Overwrites the state with zeros.
+    pub(crate) fn clear(&mut self)
+        ensures family { S.family self.new.lanes ≡ S.family self.old.lanes }
+        ensures block { self.new.block ≡ replicate 128 0 }
+        ensures total { self.new.total ≡ 0 }
+        ensures ad_len { self.new.ad_len ≡ 0 }
+    {
         self.lanes.clear();
         self.block = [0; 128];
         self.total = 0;

@@ -61,7 +61,7 @@ impl<'a> Quarantine<'a> {
     }
 
     // Appends the decryption of a piece that has room.
-    pub fn put_decrypted<S: LaneState>(&mut self, pieces: &mut Pieces<S>, piece: &[u8])
+    pub(crate) fn put_decrypted<S: LaneState>(&mut self, pieces: &mut Pieces<S>, piece: &[u8])
         requires room { length self.old.bytes + length piece.now ≤ self.old.capacity }
         requires fits { total_of pieces.old + length piece.now < 2 ^ 61 }
         ensures capacity { self.new.capacity ≡ self.old.capacity }
@@ -87,8 +87,8 @@ impl<'a> Quarantine<'a> {
         &mut buf[..len]
     }
 
-    /// Overwrites the written bytes with zeros and forgets them.
-    pub fn zero(&mut self)
+    // Overwrites the written bytes with zeros and forgets them.
+    pub(crate) fn zero(&mut self)
         ensures bytes { self.new.bytes ≡ [] }
         ensures capacity { self.new.capacity ≡ self.old.capacity }
     {

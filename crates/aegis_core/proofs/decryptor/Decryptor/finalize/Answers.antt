@@ -1,4 +1,4 @@
-use Rattle.std.proofs.Common.{◌≡◌, ℕ, List, sym, ap, ◌∙◌, length, replicate}
+use Rattle.std.proofs.Common.{ℕ, List, sym, ap, ◌∙◌}
 use Rattle.std.proofs.lemmas.List.{length-replicate}
 use Rattle.aegis_core.specs.Sealing.{family_of, seal}
 use Rattle.aegis_core.proofs.StreamsLemmas.{sealed_as, none_as}

@@ -1,4 +1,4 @@
-use Rattle.std.proofs.Common.{length, replicate, ℕ}
+use Rattle.std.proofs.Common.{ℕ}
 use Rattle.std.proofs.lemmas.List.{length-replicate}
 use Rattle.aegis_core.specs.Sealing.{family_of}
 use Rattle.aegis_core.proofs.StreamsLemmas.{tag_as}

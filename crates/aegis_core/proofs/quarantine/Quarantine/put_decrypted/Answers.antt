@@ -1,4 +1,4 @@
-use Rattle.std.proofs.Common.{◌≡◌, ◌+◌, ◌-◌, ◌≤◌, ◌++◌, ℕ, List, length, take, drop, sym, ap, ◌∙◌, arith, subst}
+use Rattle.std.proofs.Common.{◌≡◌, ◌+◌, ◌≤◌, ℕ, List, length, take, drop, sym, ap, ◌∙◌, arith, subst}
 use Rattle.aegis_core.specs.Written.{Written}
 use Rattle.aegis_core.specs.Family.{cipher_text, keyed}
 use Rattle.aegis_core.specs.Pieces.{Holds}

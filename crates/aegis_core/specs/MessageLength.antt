@@ -1,0 +1,7 @@
+-- What contracts see of the length of a message that comes in pieces.
+use Rattle.std.specs.Prelude.{ℕ}
+use Rattle.aegis_core.specs.declared.message_length.MessageLength.{MessageLength}
+
+-- how many bytes have come
+abbrev pub message_total : MessageLength → ℕ
+message_total l = l.total
