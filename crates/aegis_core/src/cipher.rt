@@ -70,6 +70,7 @@ impl<
         requires ad_len { length ad.now < 2 ^ 61 }
         requires m_len { length m.now < 2 ^ 61 }
         ensures sealed { IfOk result (λ r. seal K.variant TAG_BYTES (key_of self) (nonce_of self) ad.now m.now ≡ (r.0.items, r.1)) }
+        ensures text_len { IfOk result (λ r. length r.0.items ≡ length m.now) }
         ensures refused { IfErr result (λ e. e ≡ Error.OutOfMemory) }
     {
         let mut mc = m.to_vec(alloc).map_err(|_| Error::OutOfMemory)?;
@@ -113,6 +114,7 @@ impl<
         requires ad_len { length ad.now < 2 ^ 61 }
         requires c_len { length c.now < 2 ^ 61 }
         ensures message { IfOk result (λ m. Unseals K.variant TAG_BYTES (key_of self.now) (nonce_of self.now) ad.now c.now tag.now (Some m.items)) }
+        ensures message_len { IfOk result (λ m. length m.items ≡ length c.now) }
         ensures refused { IfErr result (RefusesText K.variant TAG_BYTES (key_of self.now) (nonce_of self.now) ad.now c.now tag.now) }
     {
         let mut mc = c.to_vec(alloc).map_err(|_| Error::OutOfMemory)?;
@@ -161,6 +163,7 @@ impl<
     /// `m` with the keystream added. The only refusal is `OutOfMemory`.
     pub fn stream_xor(self, alloc: Global, m: &[u8]) -> Result<Vec<u8>, Error>
         ensures added { IfOk result (λ c. c.items ≡ xor_bytes m.now (stream K.variant (key_of self) (nonce_of self) (length m.now))) }
+        ensures text_len { IfOk result (λ c. length c.items ≡ length m.now) }
         ensures refused { IfErr result (λ e. e ≡ Error.OutOfMemory) }
     {
         let mut mc = m.to_vec(alloc).map_err(|_| Error::OutOfMemory)?;
