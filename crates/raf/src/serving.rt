@@ -21,6 +21,7 @@ use std::collections::VecDeque;
 use std::marker::PhantomData;
 
 /// What a file is opened with: a source of random bytes, and a hasher where it has one. No call gives it a hasher yet.
+#[derive(Drop)]
 pub struct RafBuilder<A: Algorithm, R: RafRng, H: MerkleHasher> {
     rng: R,
     hasher: Option<H>,
@@ -70,6 +71,7 @@ impl<A: Algorithm, R: RafRng, H: MerkleHasher> RafBuilder<A, R, H> {
 }
 
 /// How a session ended: the replies or why there are none, and what was handed in.
+#[derive(Drop)]
 pub struct SessionEnd<I: RafIo, R: RafRng, H: MerkleHasher> {
     pub outcome: Result<Replies, Error>,
     pub io: I,
