@@ -117,9 +117,12 @@ impl<
         ensures erased { OnErr result (output.new ≡ replicate (length input.now) 0xaa) }
     {
         output.copy_from_slice(input);
-        Cipher::<K, S, KEY_BYTES, TAG_BYTES>::new(&self.key, nonce)
-            .decrypt_in_place(output, tag, associated_data)
-            .map_err(|_| AeadError)
+        let answer = Cipher::<K, S, KEY_BYTES, TAG_BYTES>::new(&self.key, nonce).decrypt_in_place(
+            output,
+            tag,
+            associated_data,
+        );
+        answer.map_err(|_| AeadError)
     }
 }
 

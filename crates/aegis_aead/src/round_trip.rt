@@ -6,7 +6,7 @@ ghost use Rattle.aegis_core.specs.Laws.{IsSealing};
 
 use crate::traits::{AeadCore, AeadError, AeadInOut, KeyInit, KeySizeUser};
 
-/// The sizes of any AEAD of these traits, and the laws of its sealing, for the proofs of generic callers.
+/// The sizes of an AEAD's nonces and tags, and the laws of its sealing, for the proofs of generic callers.
 /// The call does nothing.
 pub fn aead_laws<A: AeadCore>()
     ensures nonce_size { A.NONCE_SIZE ≡ nonce_len A.variant }
@@ -15,7 +15,8 @@ pub fn aead_laws<A: AeadCore>()
 {}
 
 /// Encrypts `message` into `sealed` and, as a check, decrypts that into `opened`. The answer is the tag; it
-/// is never refused, and `opened` holds the message again.
+/// is never refused, and `opened` holds the message again. The three have one length; associated data and
+/// message have at most 2^61 - 1 bytes.
 pub fn encrypt_checked<A: AeadInOut>(
     aead: &A,
     nonce: &A::Nonce,
@@ -36,7 +37,7 @@ pub fn encrypt_checked<A: AeadInOut>(
     Ok(tag)
 }
 
-/// `encrypt_checked` under a key.
+/// `encrypt_checked` under a key, with the same conditions. The answer is never refused.
 pub fn encrypt_checked_under<A: KeyInit + AeadInOut + Drop>(
     key: &A::Key,
     nonce: &A::Nonce,

@@ -23,7 +23,7 @@ pub trait KeySizeUser {
     /// A key.
     type Key: Copy;
 
-    /// How many bytes a key has.
+    /// How many bytes a key has, 16 or 32.
     const KEY_SIZE: usize;
 
     ghost KEY_SIZE: { ℕ };
@@ -56,7 +56,7 @@ pub trait AeadCore: KeySizeUser {
     /// A tag.
     type Tag: Copy;
 
-    /// How many bytes a nonce has.
+    /// How many bytes a nonce has, as many as a key.
     const NONCE_SIZE: usize;
 
     /// How many bytes a tag has, 16 or 32.
@@ -80,10 +80,11 @@ pub trait AeadCore: KeySizeUser {
     /// Its nonces have the cipher's length.
     ghost nonce_size: { NONCE_SIZE ≡ nonce_len Self.variant };
 
+    /// Its tags are short or long ones.
     ghost tag_size: { (TAG_SIZE ≡ 16) ⊎ (TAG_SIZE ≡ 32) };
 }
 
-/// Sealing from one slice into another, with the tag apart. Input and output have one length; associated
+/// Encryption from one slice into another, with the tag apart. Input and output have one length; associated
 /// data and input have at most 2^61 - 1 bytes.
 pub trait AeadInOut: AeadCore {
     /// Encrypts `input` into `output`; the answer is the tag. It is never refused.
