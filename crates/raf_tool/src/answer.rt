@@ -1,6 +1,6 @@
 //! What a run may answer.
 
-use raf::{Data, Error, Replies};
+use aegis::raf::{Data, Error, Replies};
 
 /// How a session ended: its replies or its refusal, and the bytes of the storage that it handed back.
 #[derive(Drop)]

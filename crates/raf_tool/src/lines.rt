@@ -6,7 +6,7 @@ ghost use Rattle.raf_tool.specs.Reading.{plain_command, range_command, command, 
 use crate::script::{Commands, ScriptError};
 use crate::values::{bytes_at, number_at};
 use crate::words::{LineWords, cut_at, words_of};
-use raf::Command;
+use aegis::raf::Command;
 use std::alloc::Global;
 
 /// The line with this number, and what stands after it.

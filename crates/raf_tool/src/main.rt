@@ -2,8 +2,12 @@
 #![tactic(auto)]
 
 mod answer;
+#[cfg(test)]
+mod examples;
 mod lines;
 mod memory;
+#[cfg(test)]
+mod names;
 mod output;
 mod program;
 mod script;
@@ -16,8 +20,8 @@ mod values;
 mod whole;
 mod words;
 
+use aegis::raf::MemIo;
 use program::{Words, run};
-use raf::MemIo;
 use standard::{ReadSource, WriteSink};
 use std::alloc::AllocError;
 use std::process::ExitCode;

@@ -10,8 +10,8 @@ ghost use Rattle.raf_tool.specs.Text.{Puts, line, hex_word, reply_line, refused_
 use crate::answer::End;
 use crate::streams::{Failed, Sink};
 use crate::whole::write_whole;
+use aegis::raf::{ErrorKind, Reason, Replies, Reply};
 use itoa::Buffer;
-use raf::{ErrorKind, Reason, Replies, Reply};
 
 /// How many bytes become hex digits at once, on the stack.
 const PIECE: usize = 1024;

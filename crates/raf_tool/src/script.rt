@@ -3,8 +3,8 @@ ghost use Rattle.std.specs.Prelude.{◌≡◌, ◌∷◌, [], ◌++◌, OnOk, On
 ghost use Rattle.raf.specs.declared.command.Command.{Command};
 ghost use Rattle.raf_tool.specs.declared.script.ScriptError.TheVariants.{OutOfMemory};
 
-use aegis_core::Variant;
-use raf::{Command, Data};
+use aegis::Variant;
+use aegis::raf::{Command, Data};
 use std::alloc::{AllocError, AllocFailed, Global};
 use std::marker::Model;
 

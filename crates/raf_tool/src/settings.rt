@@ -10,8 +10,8 @@ use crate::lines::{commands_from, line_at};
 use crate::script::{Script, ScriptError};
 use crate::values::bytes_at;
 use crate::words::{LineWords, words_of};
-use aegis_core::Variant;
-use raf::Data;
+use aegis::Variant;
+use aegis::raf::Data;
 use std::alloc::Global;
 
 // The second word of a line of two words, whose first word is this name.

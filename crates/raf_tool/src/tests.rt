@@ -3,8 +3,8 @@
 use crate::memory::{VecSink, VecSource};
 use crate::program::{Words, run};
 use crate::streams::{Failed, Source};
-use raf::MemIo;
-use raf::format::{Aegis128L, Header, write_header};
+use aegis::raf::MemIo;
+use aegis::raf::format::{Aegis128L, Header, write_header};
 use std::alloc::{AllocError, Global};
 use std::test::Fail;
 

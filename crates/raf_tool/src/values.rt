@@ -4,7 +4,7 @@ ghost use Rattle.raf_tool.specs.Words.{number, hex_bytes, IsPlain};
 ghost use Rattle.raf_tool.specs.Lines.{Gives, fits};
 
 use crate::script::ScriptError;
-use raf::Data;
+use aegis::raf::Data;
 use std::alloc::Global;
 use std::str;
 

@@ -1,0 +1,182 @@
+//! Each name of the crate `aegis` that stands here, used once as code written for that crate does.
+
+use aegis::compat::rustcrypto_traits_06 as aead;
+use aegis::compat::rustcrypto_traits_06::{AeadInOut, KeyInit};
+use aegis::raf::format::{Aegis128L, Algorithm, Header, write_header};
+use aegis::raf::tree::{HashFault, MerkleHasher, NoMerkle};
+use aegis::raf::{
+    Command, Data, ErrorKind, MemIo, RafBuilder, RafIo, RafRng, Replies, Reply, SessionEnd, VecRng,
+    session,
+};
+use aegis::{aegis128l, aegis128x2, aegis128x4, aegis256, aegis256x2, aegis256x4};
+use std::alloc::Global;
+use std::process::Abort;
+use std::test::Fail;
+
+const MESSAGE: [u8; 13] = *b"AEGIS is fast";
+
+#[test]
+fn each_call_of_a_cipher(rt: HostRuntime) -> Result<(), Fail> {
+    let alloc = rt.alloc();
+    let cipher = aegis128l::Aegis128L::<16>::new(&[1; 16], &[2; 16]);
+    let (text, tag) = cipher.encrypt(alloc, &MESSAGE, b"ad")?;
+    let mut mc = MESSAGE;
+    assert!(rt; cipher.encrypt_in_place(&mut mc, b"ad") == tag);
+    assert!(rt; mc.as_slice() == text.as_slice());
+    assert!(rt; cipher.decrypt(alloc, &text, &tag, b"ad")?.as_slice() == MESSAGE.as_slice());
+    assert!(rt; cipher.decrypt_in_place(&mut mc, &tag, b"ad") == Ok(()));
+    assert!(rt; mc == MESSAGE);
+    let mut stream = [0; 13];
+    cipher.stream(&mut stream);
+    cipher.stream_xor_in_place(&mut mc);
+    assert!(rt; cipher.stream_xor(alloc, &MESSAGE)?.as_slice() == mc.as_slice());
+    cipher.stream_xor_in_place(&mut mc);
+    assert!(rt; mc == MESSAGE);
+    Ok(())
+}
+
+#[test]
+fn each_call_of_pieces(rt: HostRuntime) {
+    let cipher = aegis256::Aegis256::<32>::new(&[1; 32], &[2; 32]);
+    let (mut start, mut end) = (*b"AEGIS ", [0; 7]);
+    let mut encryptor = cipher.encryptor(b"ad");
+    encryptor.update_in_place(&mut start);
+    assert!(rt; encryptor.fits(7));
+    encryptor.update(b"is fast", &mut end);
+    let tag = encryptor.finalize();
+    let mut room = [0; 13];
+    let mut decryptor = cipher.decryptor(b"ad", &mut room);
+    assert!(rt; decryptor.update(&start) == Ok(()));
+    assert!(rt; decryptor.update(&end) == Ok(()));
+    assert!(rt; decryptor.finalize(&tag).is_ok());
+    assert!(rt; room == MESSAGE);
+}
+
+#[test]
+fn each_call_of_a_mac(rt: HostRuntime) {
+    let mut mac = aegis128x2::Aegis128X2Mac::<32>::new(&[1; 16]);
+    assert!(rt; mac.fits(13));
+    mac.update(&MESSAGE);
+    let copy = mac.clone();
+    let tag = mac.finalize_and_reset();
+    assert!(rt; copy.verify(&tag) == Ok(()));
+    mac.reset();
+    mac.update(&MESSAGE);
+    assert!(rt; mac.finalize() == tag);
+    let mut other = aegis128x2::Aegis128X2Mac::<32>::new_with_nonce(&[1; 16], &[2; 16]);
+    other.update(&MESSAGE);
+    assert!(rt; other.verify(&tag) == Err(aegis128x2::Error::InvalidTag));
+}
+
+// The seven names of a module.
+macro_rules! names_of {
+    ($rt:ident, $module:ident, $cipher:ident, $mac:ident, $bytes:literal) => {{
+        let key: $module::Key = [1; $bytes];
+        let nonce: $module::Nonce = [2; $bytes];
+        let cipher: $module::$cipher<16> = $module::$cipher::new(&key, &nonce);
+        let encryptor: $module::Encryptor<16> = cipher.encryptor(&[]);
+        let tag: $module::Tag<16> = encryptor.finalize();
+        let decryptor: $module::Decryptor<16> = cipher.decryptor(&[], &mut []);
+        assert!($rt; decryptor.finalize(&tag).is_ok());
+        let mac: $module::$mac<16> = $module::$mac::new(&key);
+        assert!($rt; mac.verify(&tag) == Err($module::Error::InvalidTag));
+    }};
+}
+
+#[test]
+fn each_name_of_the_modules(rt: HostRuntime) {
+    names_of!(rt, aegis128l, Aegis128L, Aegis128LMac, 16);
+    names_of!(rt, aegis128x2, Aegis128X2, Aegis128X2Mac, 16);
+    names_of!(rt, aegis128x4, Aegis128X4, Aegis128X4Mac, 16);
+    names_of!(rt, aegis256, Aegis256, Aegis256Mac, 32);
+    names_of!(rt, aegis256x2, Aegis256X2, Aegis256X2Mac, 32);
+    names_of!(rt, aegis256x4, Aegis256X4, Aegis256X4Mac, 32);
+}
+
+// Encrypts and decrypts through the traits' names.
+fn sealed_and_opened<A: KeyInit + AeadInOut + Drop>(
+    rt: &impl Abort,
+    key: &A::Key,
+    nonce: &A::Nonce,
+) {
+    let aead = A::new(key);
+    let (mut text, mut opened) = ([0; 13], [0; 13]);
+    match aead.encrypt_inout_detached(nonce, b"ad", &MESSAGE, &mut text) {
+        Ok(tag) => {
+            let answer = aead.decrypt_inout_detached(nonce, b"ad", &text, &mut opened, &tag);
+            assert!(rt; answer.is_ok());
+        }
+        Err(aead::AeadError) => assert!(rt; false),
+    }
+    assert!(rt; opened == MESSAGE);
+}
+
+#[test]
+fn each_adapter(rt: HostRuntime) {
+    sealed_and_opened::<aead::Aegis128L<16>>(&rt, &[1; 16], &[2; 16]);
+    sealed_and_opened::<aead::Aegis128X2<16>>(&rt, &[1; 16], &[2; 16]);
+    sealed_and_opened::<aead::Aegis128X4<32>>(&rt, &[1; 16], &[2; 16]);
+    sealed_and_opened::<aead::Aegis256<16>>(&rt, &[1; 32], &[2; 32]);
+    sealed_and_opened::<aead::Aegis256X2<32>>(&rt, &[1; 32], &[2; 32]);
+    sealed_and_opened::<aead::Aegis256X4<32>>(&rt, &[1; 32], &[2; 32]);
+    assert!(rt; <aead::Aegis256X4<32> as aead::KeySizeUser>::KEY_SIZE == 32);
+    assert!(rt; <aead::Aegis256X4<32> as aead::AeadCore>::NONCE_SIZE == 32);
+    assert!(rt; <aead::Aegis256X4<32> as aead::AeadCore>::TAG_SIZE == 32);
+    assert!(rt;
+        <aead::Aegis256X4<32> as aead::AeadCore>::TAG_POSITION == aead::TagPosition::Postfix
+    );
+}
+
+// A session over these parts, generic in each of them as the crate's own bounds are.
+fn served<A: Algorithm, I: RafIo, R: RafRng>(
+    alloc: Global,
+    rng: R,
+    io: I,
+    key: &A::Key,
+    commands: &[Command],
+) -> SessionEnd<I, R, NoMerkle> {
+    session(
+        alloc,
+        RafBuilder::<A, R, NoMerkle>::with_rng(rng),
+        io,
+        key,
+        commands,
+    )
+}
+
+#[test]
+fn each_name_of_the_file(rt: HostRuntime) -> Result<(), Fail> {
+    let alloc = rt.alloc();
+    let fields = Header {
+        version: 1,
+        algorithm: 1,
+        chunk_size: 16,
+        file_size: 0,
+        id: [0; 32],
+    };
+    let mut header = [0; 96];
+    write_header::<Aegis128L>(&fields, &[3; 16], &mut header);
+    let io = MemIo::new(alloc, header.to_vec(alloc)?, Vec::new(alloc));
+    let rng = VecRng::new(Vec::from_elem(alloc, 9, 16)?);
+    let commands = vec![in alloc;
+        Command::Write {
+            offset: 0,
+            bytes: Data::from_vec(MESSAGE.to_vec(alloc)?)
+        },
+        Command::Commitment,
+    ]?;
+    let end = served::<Aegis128L, MemIo, VecRng>(alloc, rng, io, &[3; 16], &commands);
+    let replies: Replies = end.outcome?;
+    assert!(rt; matches!(replies.get(0), Some(Reply::Wrote(13))));
+    assert!(rt;
+        matches!(
+            replies.get(1),
+            Some(Reply::Refused(ErrorKind::MerkleNotEnabled))
+        )
+    );
+    assert!(rt; end.io.bytes().len() == 141);
+    let mut hasher = NoMerkle::new();
+    let hashed: Result<(), HashFault> = hasher.hash_leaf(&mut [0; 8], &MESSAGE, 0);
+    assert!(rt; hashed.is_ok());
+    Ok(())
+}
