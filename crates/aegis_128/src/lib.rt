@@ -4,9 +4,5 @@
 pub mod aegis128l;
 pub mod aegis128x2;
 pub mod aegis128x4;
-#[cfg(test)]
-mod piece_tests;
-#[cfg(test)]
-mod tests;
 
 pub use aegis_core::Error;

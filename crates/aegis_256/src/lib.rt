@@ -4,9 +4,5 @@
 pub mod aegis256;
 pub mod aegis256x2;
 pub mod aegis256x4;
-#[cfg(test)]
-mod piece_tests;
-#[cfg(test)]
-mod tests;
 
 pub use aegis_core::Error;

@@ -17,6 +17,8 @@ mod streams;
 #[cfg(test)]
 mod tests;
 mod values;
+#[cfg(test)]
+mod vectors;
 mod whole;
 mod words;
 

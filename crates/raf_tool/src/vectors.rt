@@ -1,0 +1,23 @@
+//! The ciphers under their public names: outside figures, and calls that have to agree.
+
+mod ciphers;
+mod lent;
+mod macs;
+mod pieces;
+mod sealing;
+mod streams;
+
+// Byte i is `step * i + first`, modulo 256.
+fn step_through(out: &mut [u8], step: u8, first: u8) {
+    let mut byte = first;
+    for place in out.iter_mut() {
+        *place = byte;
+        byte = byte.wrapping_add(step);
+    }
+}
+
+fn stepped<const N: usize>(step: u8, first: u8) -> [u8; N] {
+    let mut bytes = [0; N];
+    step_through(&mut bytes, step, first);
+    bytes
+}
