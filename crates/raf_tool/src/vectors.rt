@@ -1,6 +1,6 @@
 //! The ciphers under their public names: outside figures, and calls that have to agree.
 
-mod debug;
+mod ciphers;
 mod lent;
 mod macs;
 mod pieces;

@@ -118,10 +118,11 @@ fn tags<K: CipherKind<S, KEY_BYTES>, S: LaneState, const KEY_BYTES: usize, const
     assert_eq!(rt; hex::encode(alloc, expected.as_slice())?.as_str(), tag);
     assert!(rt; copy.finalize() == expected);
     resets(rt, mac, text, &expected);
+    verifies(rt, mac, text, &expected);
     Ok(())
 }
 
-// The text has this tag again once the MAC was reset, and no other tag.
+// The text has this tag again after its end.
 fn resets<
     K: CipherKind<S, KEY_BYTES>,
     S: LaneState,
@@ -137,7 +138,19 @@ fn resets<
     assert!(rt; mac.fits(text.len()));
     mac.update(text);
     assert!(rt; mac.finalize_and_reset() == *tag);
-    assert!(rt; mac.fits(9));
+}
+
+// So it has once a MAC of another text was reset, and it has no other tag.
+fn verifies<
+    K: CipherKind<S, KEY_BYTES>,
+    S: LaneState,
+    const KEY_BYTES: usize,
+    const TAG_BYTES: usize,
+>(rt: &impl Abort, mac: &Mac<K, S, KEY_BYTES, TAG_BYTES>, text: &[u8], tag: &[u8; TAG_BYTES])
+    requires tag_bytes { (TAG_BYTES ≡ 16) ⊎ (TAG_BYTES ≡ 32) }
+    requires empty { mac_total mac.now ≡ 0 }
+{
+    let mut mac = mac.clone();
     mac.update(b"forgotten");
     mac.reset();
     assert!(rt; mac.fits(text.len()));

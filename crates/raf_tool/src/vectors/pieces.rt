@@ -4,7 +4,7 @@ ghost use Rattle.std.specs.Prelude.{◌≡◌, ◌^◌, ◌<◌, ◌≤◌, leng
 ghost use Rattle.aegis_core.specs.Streams.{encrypted_total};
 
 use super::stepped;
-use aegis::{aegis128l, aegis128x2, aegis128x4, aegis256, aegis256x2, aegis256x4};
+use aegis::{aegis128l, aegis256};
 use aegis_core::{Cipher, CipherKind, Decryptor, Encryptor, LaneState};
 use std::process::Abort;
 
@@ -91,6 +91,27 @@ fn from_pieces<K: CipherKind<S, KEY_BYTES>, S: LaneState, const KEY_BYTES: usize
     }
 }
 
+// The message seals to this with this cut, by two encryptors, and comes back by the decryptor.
+fn cut_in_two<K: CipherKind<S, KEY_BYTES>, S: LaneState, const KEY_BYTES: usize, const LEN: usize>(
+    rt: &impl Abort,
+    encryptors: (
+        Encryptor<K, S, KEY_BYTES, 16>,
+        Encryptor<K, S, KEY_BYTES, 16>,
+    ),
+    decryptor: Decryptor<'_, K, S, KEY_BYTES, 16>,
+    sealed: &Sealed<LEN>,
+    cut: usize,
+)
+    requires first { encrypted_total encryptors.0 ≡ 0 }
+    requires second { encrypted_total encryptors.1 ≡ 0 }
+    requires cut { cut ≤ LEN }
+    requires len { LEN < 2 ^ 61 }
+{
+    into_pieces(rt, encryptors.0, sealed, cut);
+    in_pieces(rt, encryptors.1, sealed, cut);
+    from_pieces(rt, decryptor, sealed, cut);
+}
+
 #[test]
 fn the_vector_of_aegis128l_with_no_associated_data(rt: HostRuntime) {
     let (mut key, mut nonce) = ([0; 16], [0; 16]);
@@ -107,11 +128,16 @@ fn the_vector_of_aegis128l_with_no_associated_data(rt: HostRuntime) {
             0xe3, 0x7a,
         ],
     };
-    let mut room = [0xff; 16];
     in_one_call(&rt, &cipher, &[], &sealed);
-    into_pieces(&rt, cipher.encryptor(&[]), &sealed, 5);
-    in_pieces(&rt, cipher.encryptor(&[]), &sealed, 5);
-    from_pieces(&rt, cipher.decryptor(&[], &mut room), &sealed, 5);
+    let mut room = [0xff; 16];
+    let encryptors = (cipher.encryptor(&[]), cipher.encryptor(&[]));
+    cut_in_two(
+        &rt,
+        encryptors,
+        cipher.decryptor(&[], &mut room),
+        &sealed,
+        5,
+    );
 }
 
 #[test]
@@ -132,11 +158,16 @@ fn the_vector_of_aegis128l(rt: HostRuntime) {
             0x2d, 0x9a,
         ],
     };
-    let mut room = [0xff; 32];
     in_one_call(&rt, &cipher, &ad, &sealed);
-    into_pieces(&rt, cipher.encryptor(&ad), &sealed, 5);
-    in_pieces(&rt, cipher.encryptor(&ad), &sealed, 5);
-    from_pieces(&rt, cipher.decryptor(&ad, &mut room), &sealed, 5);
+    let mut room = [0xff; 32];
+    let encryptors = (cipher.encryptor(&ad), cipher.encryptor(&ad));
+    cut_in_two(
+        &rt,
+        encryptors,
+        cipher.decryptor(&ad, &mut room),
+        &sealed,
+        5,
+    );
 }
 
 #[test]
@@ -157,91 +188,48 @@ fn the_vector_of_aegis256(rt: HostRuntime) {
             0xd9, 0x1d,
         ],
     };
-    let mut room = [0xff; 32];
     in_one_call(&rt, &cipher, &ad, &sealed);
-    into_pieces(&rt, cipher.encryptor(&ad), &sealed, 5);
-    in_pieces(&rt, cipher.encryptor(&ad), &sealed, 5);
-    from_pieces(&rt, cipher.decryptor(&ad, &mut room), &sealed, 5);
+    let mut room = [0xff; 32];
+    let encryptors = (cipher.encryptor(&ad), cipher.encryptor(&ad));
+    cut_in_two(
+        &rt,
+        encryptors,
+        cipher.decryptor(&ad, &mut room),
+        &sealed,
+        5,
+    );
 }
 
-// What a message of 130 bytes seals to in one call.
-fn whole<K: CipherKind<S, KEY_BYTES>, S: LaneState, const KEY_BYTES: usize>(
+// A message of 130 bytes, cut in two at each place, seals to what it seals to in one call, and comes
+// back. The first cut is made with what was handed in.
+pub fn each_cut<K: CipherKind<S, KEY_BYTES>, S: LaneState, const KEY_BYTES: usize>(
+    rt: &impl Abort,
     cipher: &Cipher<K, S, KEY_BYTES, 16>,
-) -> Sealed<130> {
+    encryptor: Encryptor<K, S, KEY_BYTES, 16>,
+    decryptor: Decryptor<'_, K, S, KEY_BYTES, 16>,
+)
+    requires { encrypted_total encryptor ≡ 0 }
+{
     let message = stepped(3, 9);
     let mut text = message;
     let tag = cipher.encrypt_in_place(&mut text, b"ad");
-    Sealed { message, text, tag }
-}
-
-#[test]
-fn each_cut_gives_the_whole_of_aegis128l(rt: HostRuntime) {
-    let cipher = aegis128l::Aegis128L::<16>::new(&[3; 16], &[4; 16]);
-    let sealed = whole(&cipher);
-    for cut in 0..131 {
+    let sealed: Sealed<130> = Sealed { message, text, tag };
+    cut_in_two(
+        rt,
+        (encryptor, cipher.encryptor(b"ad")),
+        decryptor,
+        &sealed,
+        0,
+    );
+    for cut in 1..131 {
         let mut room = [0xff; 130];
-        into_pieces(&rt, cipher.encryptor(b"ad"), &sealed, cut);
-        in_pieces(&rt, cipher.encryptor(b"ad"), &sealed, cut);
-        from_pieces(&rt, cipher.decryptor(b"ad", &mut room), &sealed, cut);
-    }
-}
-
-#[test]
-fn each_cut_gives_the_whole_of_aegis128x2(rt: HostRuntime) {
-    let cipher = aegis128x2::Aegis128X2::<16>::new(&[3; 16], &[4; 16]);
-    let sealed = whole(&cipher);
-    for cut in 0..131 {
-        let mut room = [0xff; 130];
-        into_pieces(&rt, cipher.encryptor(b"ad"), &sealed, cut);
-        in_pieces(&rt, cipher.encryptor(b"ad"), &sealed, cut);
-        from_pieces(&rt, cipher.decryptor(b"ad", &mut room), &sealed, cut);
-    }
-}
-
-#[test]
-fn each_cut_gives_the_whole_of_aegis128x4(rt: HostRuntime) {
-    let cipher = aegis128x4::Aegis128X4::<16>::new(&[3; 16], &[4; 16]);
-    let sealed = whole(&cipher);
-    for cut in 0..131 {
-        let mut room = [0xff; 130];
-        into_pieces(&rt, cipher.encryptor(b"ad"), &sealed, cut);
-        in_pieces(&rt, cipher.encryptor(b"ad"), &sealed, cut);
-        from_pieces(&rt, cipher.decryptor(b"ad", &mut room), &sealed, cut);
-    }
-}
-
-#[test]
-fn each_cut_gives_the_whole_of_aegis256(rt: HostRuntime) {
-    let cipher = aegis256::Aegis256::<16>::new(&[3; 32], &[4; 32]);
-    let sealed = whole(&cipher);
-    for cut in 0..131 {
-        let mut room = [0xff; 130];
-        into_pieces(&rt, cipher.encryptor(b"ad"), &sealed, cut);
-        in_pieces(&rt, cipher.encryptor(b"ad"), &sealed, cut);
-        from_pieces(&rt, cipher.decryptor(b"ad", &mut room), &sealed, cut);
-    }
-}
-
-#[test]
-fn each_cut_gives_the_whole_of_aegis256x2(rt: HostRuntime) {
-    let cipher = aegis256x2::Aegis256X2::<16>::new(&[3; 32], &[4; 32]);
-    let sealed = whole(&cipher);
-    for cut in 0..131 {
-        let mut room = [0xff; 130];
-        into_pieces(&rt, cipher.encryptor(b"ad"), &sealed, cut);
-        in_pieces(&rt, cipher.encryptor(b"ad"), &sealed, cut);
-        from_pieces(&rt, cipher.decryptor(b"ad", &mut room), &sealed, cut);
-    }
-}
-
-#[test]
-fn each_cut_gives_the_whole_of_aegis256x4(rt: HostRuntime) {
-    let cipher = aegis256x4::Aegis256X4::<16>::new(&[3; 32], &[4; 32]);
-    let sealed = whole(&cipher);
-    for cut in 0..131 {
-        let mut room = [0xff; 130];
-        into_pieces(&rt, cipher.encryptor(b"ad"), &sealed, cut);
-        in_pieces(&rt, cipher.encryptor(b"ad"), &sealed, cut);
-        from_pieces(&rt, cipher.decryptor(b"ad", &mut room), &sealed, cut);
+        let encryptors = (cipher.encryptor(b"ad"), cipher.encryptor(b"ad"));
+        cut_in_two(
+            rt,
+            encryptors,
+            cipher.decryptor(b"ad", &mut room),
+            &sealed,
+            cut,
+        );
     }
 }
