@@ -8,8 +8,15 @@ use super::pieces::each_cut;
 use aegis::{aegis128l, aegis128x2, aegis128x4, aegis256, aegis256x2, aegis256x4};
 use aegis_core::{Cipher, CipherKind, Decryptor, Encryptor, LaneState, Mac};
 use std::alloc::Global;
+use std::fmt::Debug;
 use std::process::Abort;
 use std::test::Fail;
+
+// This debug text.
+fn shows_as<T: Debug>(rt: &impl Abort, alloc: Global, value: &T, text: &str) -> Result<(), Fail> {
+    assert_eq!(rt; format!(in alloc; "{value:?}")?.as_str(), text);
+    Ok(())
+}
 
 // These debug texts.
 fn shows<K: CipherKind<S, KEY_BYTES>, S: LaneState, const KEY_BYTES: usize>(
@@ -21,11 +28,10 @@ fn shows<K: CipherKind<S, KEY_BYTES>, S: LaneState, const KEY_BYTES: usize>(
     mac: &Mac<K, S, KEY_BYTES, 16>,
     names: [&str; 4],
 ) -> Result<(), Fail> {
-    assert_eq!(rt; format!(in alloc; "{cipher:?}")?.as_str(), names[0]);
-    assert_eq!(rt; format!(in alloc; "{encryptor:?}")?.as_str(), names[1]);
-    assert_eq!(rt; format!(in alloc; "{decryptor:?}")?.as_str(), names[2]);
-    assert_eq!(rt; format!(in alloc; "{mac:?}")?.as_str(), names[3]);
-    Ok(())
+    shows_as(rt, alloc, cipher, names[0])?;
+    shows_as(rt, alloc, encryptor, names[1])?;
+    shows_as(rt, alloc, decryptor, names[2])?;
+    shows_as(rt, alloc, mac, names[3])
 }
 
 // The encryptor holds nothing, and the decryptor has room for 13 bytes.

@@ -3,7 +3,7 @@
 ghost use Rattle.std.specs.Prelude.{◌≡◌, ◌⊎◌};
 ghost use Rattle.aegis_core.specs.Streams.{mac_total};
 
-use super::stepped;
+use super::{is_hex, stepped};
 use aegis::{Error, aegis128l, aegis128x2, aegis128x4, aegis256, aegis256x2, aegis256x4};
 use aegis_core::{CipherKind, LaneState, Mac};
 use std::alloc::Global;
@@ -115,7 +115,7 @@ fn tags<K: CipherKind<S, KEY_BYTES>, S: LaneState, const KEY_BYTES: usize, const
     whole.update(second);
     copy.update(second);
     let expected = whole.finalize();
-    assert_eq!(rt; hex::encode(alloc, expected.as_slice())?.as_str(), tag);
+    is_hex(rt, alloc, &expected, tag)?;
     assert!(rt; copy.finalize() == expected);
     resets(rt, mac, text, &expected);
     verifies(rt, mac, text, &expected);
