@@ -161,6 +161,24 @@ fn verifies<
     assert!(rt; mac.verify(tag) == Ok(()));
 }
 
+// A text has one tag in one piece, in two, and by a copy that is made between the two.
+pub fn comes_in_two<K: CipherKind<S, KEY_BYTES>, S: LaneState, const KEY_BYTES: usize>(
+    rt: &impl Abort,
+    mac: &Mac<K, S, KEY_BYTES, 16>,
+)
+    requires { mac_total mac.now ≡ 0 }
+{
+    let mut parts = mac.clone();
+    parts.update(b"AEGIS ");
+    let mut copy = parts.clone();
+    parts.update(b"is fast");
+    copy.update(b"is fast");
+    let tag = parts.finalize();
+    assert!(rt; copy.finalize() == tag);
+    resets(rt, mac, b"AEGIS is fast", &tag);
+    verifies(rt, mac, b"AEGIS is fast", &tag);
+}
+
 fn tags_as<K: CipherKind<S, KEY_BYTES>, S: LaneState, const KEY_BYTES: usize>(
     rt: &impl Abort,
     alloc: Global,
