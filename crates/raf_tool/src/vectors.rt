@@ -7,6 +7,10 @@ mod pieces;
 mod sealing;
 mod streams;
 
+use std::alloc::Global;
+use std::process::Abort;
+use std::test::Fail;
+
 // Byte i is `step * i + first`, modulo 256.
 fn step_through(out: &mut [u8], step: u8, first: u8) {
     let mut byte = first;
@@ -20,4 +24,10 @@ fn stepped<const N: usize>(step: u8, first: u8) -> [u8; N] {
     let mut bytes = [0; N];
     step_through(&mut bytes, step, first);
     bytes
+}
+
+// The bytes are this text in hex.
+fn is_hex(rt: &impl Abort, alloc: Global, bytes: &[u8], text: &str) -> Result<(), Fail> {
+    assert_eq!(rt; hex::encode(alloc, bytes)?.as_str(), text);
+    Ok(())
 }

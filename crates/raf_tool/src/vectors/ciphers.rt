@@ -1,17 +1,25 @@
-//! What each cipher does with messages in pieces, by its public names.
+//! What each cipher does with messages and texts in pieces, by its public names.
 
 ghost use Rattle.std.specs.Prelude.{◌≡◌};
-ghost use Rattle.aegis_core.specs.Streams.{encrypted_total};
+ghost use Rattle.aegis_core.specs.Streams.{encrypted_total, mac_total};
 
 use super::lent::{lends, refuses};
+use super::macs::comes_in_two;
 use super::pieces::each_cut;
 use aegis::{aegis128l, aegis128x2, aegis128x4, aegis256, aegis256x2, aegis256x4};
 use aegis_core::{Cipher, CipherKind, Decryptor, Encryptor, LaneState, Mac};
 use std::alloc::Global;
+use std::fmt::Debug;
 use std::process::Abort;
 use std::test::Fail;
 
-// These debug texts.
+// The value has this debug text.
+fn shows_as<T: Debug>(rt: &impl Abort, alloc: Global, value: &T, text: &str) -> Result<(), Fail> {
+    assert_eq!(rt; format!(in alloc; "{value:?}")?.as_str(), text);
+    Ok(())
+}
+
+// Each of them has its debug text.
 fn shows<K: CipherKind<S, KEY_BYTES>, S: LaneState, const KEY_BYTES: usize>(
     rt: &impl Abort,
     alloc: Global,
@@ -21,14 +29,14 @@ fn shows<K: CipherKind<S, KEY_BYTES>, S: LaneState, const KEY_BYTES: usize>(
     mac: &Mac<K, S, KEY_BYTES, 16>,
     names: [&str; 4],
 ) -> Result<(), Fail> {
-    assert_eq!(rt; format!(in alloc; "{cipher:?}")?.as_str(), names[0]);
-    assert_eq!(rt; format!(in alloc; "{encryptor:?}")?.as_str(), names[1]);
-    assert_eq!(rt; format!(in alloc; "{decryptor:?}")?.as_str(), names[2]);
-    assert_eq!(rt; format!(in alloc; "{mac:?}")?.as_str(), names[3]);
-    Ok(())
+    shows_as(rt, alloc, cipher, names[0])?;
+    shows_as(rt, alloc, encryptor, names[1])?;
+    shows_as(rt, alloc, decryptor, names[2])?;
+    shows_as(rt, alloc, mac, names[3])
 }
 
-// The encryptor holds nothing, and the decryptor has room for 13 bytes.
+// All that a cipher does in pieces, under the associated data `ad`. The decryptor has room for 13 bytes.
+// More of both are made here: a function with the type in its signature knows that it fits in memory.
 fn comes_in_pieces<K: CipherKind<S, KEY_BYTES>, S: LaneState, const KEY_BYTES: usize>(
     rt: &impl Abort,
     alloc: Global,
@@ -38,11 +46,13 @@ fn comes_in_pieces<K: CipherKind<S, KEY_BYTES>, S: LaneState, const KEY_BYTES: u
     mac: &Mac<K, S, KEY_BYTES, 16>,
     names: [&str; 4],
 ) -> Result<(), Fail>
-    requires { encrypted_total encryptor ≡ 0 }
+    requires encryptor { encrypted_total encryptor ≡ 0 }
+    requires mac { mac_total mac.now ≡ 0 }
 {
     shows(rt, alloc, cipher, &encryptor, &decryptor, mac, names)?;
     lends(rt, cipher, encryptor, decryptor);
     refuses(rt, alloc, cipher);
+    comes_in_two(rt, mac);
     let mut room = [0xff; 130];
     each_cut(
         rt,

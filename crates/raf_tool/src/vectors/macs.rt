@@ -3,7 +3,7 @@
 ghost use Rattle.std.specs.Prelude.{◌≡◌, ◌⊎◌};
 ghost use Rattle.aegis_core.specs.Streams.{mac_total};
 
-use super::stepped;
+use super::{is_hex, stepped};
 use aegis::{Error, aegis128l, aegis128x2, aegis128x4, aegis256, aegis256x2, aegis256x4};
 use aegis_core::{CipherKind, LaneState, Mac};
 use std::alloc::Global;
@@ -115,7 +115,7 @@ fn tags<K: CipherKind<S, KEY_BYTES>, S: LaneState, const KEY_BYTES: usize, const
     whole.update(second);
     copy.update(second);
     let expected = whole.finalize();
-    assert_eq!(rt; hex::encode(alloc, expected.as_slice())?.as_str(), tag);
+    is_hex(rt, alloc, &expected, tag)?;
     assert!(rt; copy.finalize() == expected);
     resets(rt, mac, text, &expected);
     verifies(rt, mac, text, &expected);
@@ -159,6 +159,24 @@ fn verifies<
     changed[0] ^= 1;
     assert!(rt; mac.clone().verify(&changed) == Err(Error::InvalidTag));
     assert!(rt; mac.verify(tag) == Ok(()));
+}
+
+// A text has one tag in one piece, in two, and by a copy that is made between the two.
+pub fn comes_in_two<K: CipherKind<S, KEY_BYTES>, S: LaneState, const KEY_BYTES: usize>(
+    rt: &impl Abort,
+    mac: &Mac<K, S, KEY_BYTES, 16>,
+)
+    requires { mac_total mac.now ≡ 0 }
+{
+    let mut parts = mac.clone();
+    parts.update(b"AEGIS ");
+    let mut copy = parts.clone();
+    parts.update(b"is fast");
+    copy.update(b"is fast");
+    let tag = parts.finalize();
+    assert!(rt; copy.finalize() == tag);
+    resets(rt, mac, b"AEGIS is fast", &tag);
+    verifies(rt, mac, b"AEGIS is fast", &tag);
 }
 
 fn tags_as<K: CipherKind<S, KEY_BYTES>, S: LaneState, const KEY_BYTES: usize>(

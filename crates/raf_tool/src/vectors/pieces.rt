@@ -91,24 +91,24 @@ fn from_pieces<K: CipherKind<S, KEY_BYTES>, S: LaneState, const KEY_BYTES: usize
     }
 }
 
-// The message seals to this with this cut, by two encryptors, and comes back by the decryptor.
-fn cut_in_two<K: CipherKind<S, KEY_BYTES>, S: LaneState, const KEY_BYTES: usize, const LEN: usize>(
+// All of this, with this cut. The encryptor and the decryptor hold nothing, after `ad`.
+fn seals_as<K: CipherKind<S, KEY_BYTES>, S: LaneState, const KEY_BYTES: usize, const LEN: usize>(
     rt: &impl Abort,
-    encryptors: (
-        Encryptor<K, S, KEY_BYTES, 16>,
-        Encryptor<K, S, KEY_BYTES, 16>,
-    ),
+    cipher: &Cipher<K, S, KEY_BYTES, 16>,
+    ad: &[u8],
+    encryptor: Encryptor<K, S, KEY_BYTES, 16>,
     decryptor: Decryptor<'_, K, S, KEY_BYTES, 16>,
     sealed: &Sealed<LEN>,
     cut: usize,
 )
-    requires first { encrypted_total encryptors.0 ≡ 0 }
-    requires second { encrypted_total encryptors.1 ≡ 0 }
+    requires ad { length ad.now < 2 ^ 61 }
+    requires empty { encrypted_total encryptor ≡ 0 }
     requires cut { cut ≤ LEN }
     requires len { LEN < 2 ^ 61 }
 {
-    into_pieces(rt, encryptors.0, sealed, cut);
-    in_pieces(rt, encryptors.1, sealed, cut);
+    in_one_call(rt, cipher, ad, sealed);
+    into_pieces(rt, encryptor, sealed, cut);
+    in_pieces(rt, cipher.encryptor(ad), sealed, cut);
     from_pieces(rt, decryptor, sealed, cut);
 }
 
@@ -128,16 +128,9 @@ fn the_vector_of_aegis128l_with_no_associated_data(rt: HostRuntime) {
             0xe3, 0x7a,
         ],
     };
-    in_one_call(&rt, &cipher, &[], &sealed);
     let mut room = [0xff; 16];
-    let encryptors = (cipher.encryptor(&[]), cipher.encryptor(&[]));
-    cut_in_two(
-        &rt,
-        encryptors,
-        cipher.decryptor(&[], &mut room),
-        &sealed,
-        5,
-    );
+    let (encryptor, decryptor) = (cipher.encryptor(&[]), cipher.decryptor(&[], &mut room));
+    seals_as(&rt, &cipher, &[], encryptor, decryptor, &sealed, 5);
 }
 
 #[test]
@@ -158,16 +151,9 @@ fn the_vector_of_aegis128l(rt: HostRuntime) {
             0x2d, 0x9a,
         ],
     };
-    in_one_call(&rt, &cipher, &ad, &sealed);
     let mut room = [0xff; 32];
-    let encryptors = (cipher.encryptor(&ad), cipher.encryptor(&ad));
-    cut_in_two(
-        &rt,
-        encryptors,
-        cipher.decryptor(&ad, &mut room),
-        &sealed,
-        5,
-    );
+    let (encryptor, decryptor) = (cipher.encryptor(&ad), cipher.decryptor(&ad, &mut room));
+    seals_as(&rt, &cipher, &ad, encryptor, decryptor, &sealed, 5);
 }
 
 #[test]
@@ -188,16 +174,9 @@ fn the_vector_of_aegis256(rt: HostRuntime) {
             0xd9, 0x1d,
         ],
     };
-    in_one_call(&rt, &cipher, &ad, &sealed);
     let mut room = [0xff; 32];
-    let encryptors = (cipher.encryptor(&ad), cipher.encryptor(&ad));
-    cut_in_two(
-        &rt,
-        encryptors,
-        cipher.decryptor(&ad, &mut room),
-        &sealed,
-        5,
-    );
+    let (encryptor, decryptor) = (cipher.encryptor(&ad), cipher.decryptor(&ad, &mut room));
+    seals_as(&rt, &cipher, &ad, encryptor, decryptor, &sealed, 5);
 }
 
 // A message of 130 bytes, cut in two at each place, seals to what it seals to in one call, and comes
@@ -214,22 +193,10 @@ pub fn each_cut<K: CipherKind<S, KEY_BYTES>, S: LaneState, const KEY_BYTES: usiz
     let mut text = message;
     let tag = cipher.encrypt_in_place(&mut text, b"ad");
     let sealed: Sealed<130> = Sealed { message, text, tag };
-    cut_in_two(
-        rt,
-        (encryptor, cipher.encryptor(b"ad")),
-        decryptor,
-        &sealed,
-        0,
-    );
+    seals_as(rt, cipher, b"ad", encryptor, decryptor, &sealed, 0);
     for cut in 1..131 {
         let mut room = [0xff; 130];
-        let encryptors = (cipher.encryptor(b"ad"), cipher.encryptor(b"ad"));
-        cut_in_two(
-            rt,
-            encryptors,
-            cipher.decryptor(b"ad", &mut room),
-            &sealed,
-            cut,
-        );
+        let (encryptor, decryptor) = (cipher.encryptor(b"ad"), cipher.decryptor(b"ad", &mut room));
+        seals_as(rt, cipher, b"ad", encryptor, decryptor, &sealed, cut);
     }
 }

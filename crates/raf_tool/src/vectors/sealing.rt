@@ -2,7 +2,7 @@
 
 ghost use Rattle.std.specs.Prelude.{◌≡◌, ◌⊎◌};
 
-use super::stepped;
+use super::{is_hex, stepped};
 use aegis::{aegis128l, aegis128x2, aegis128x4, aegis256, aegis256x2, aegis256x4};
 use aegis_core::{Cipher, CipherKind, LaneState};
 use std::alloc::Global;
@@ -218,11 +218,8 @@ fn seals<K: CipherKind<S, KEY_BYTES>, S: LaneState, const KEY_BYTES: usize, cons
     let ad = &ad[..usize::from(figure.ad_len)];
     let message = &message[..usize::from(figure.message_len)];
     let (sealed, sealed_tag) = cipher.encrypt(alloc, message, ad)?;
-    assert_eq!(rt;
-        hex::encode(alloc, sealed.as_slice())?.as_str(),
-        figure.text
-    );
-    assert_eq!(rt; hex::encode(alloc, sealed_tag.as_slice())?.as_str(), tag);
+    is_hex(rt, alloc, &sealed, figure.text)?;
+    is_hex(rt, alloc, &sealed_tag, tag)?;
     let opened = cipher.decrypt(alloc, &sealed, &sealed_tag, ad)?;
     assert!(rt; opened.as_slice() == message);
     Ok(())
