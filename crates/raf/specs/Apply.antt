@@ -1,4 +1,4 @@
--- What commands do to a file, and what is due to them.
+-- What commands do to a file, and what is due to them (this project's own).
 use Rattle.std.specs.Prelude.{ℕ, zero, suc, ◌+◌, ◌-◌, ◌*◌, min, max, ◌&&◌, not, if◌then◌else◌, nat_lt, nat_le, nat_eq, List, [], ◌∷◌, ◌++◌, length, take, drop, slice_index, Option, Some, None, unwrap_or}
 use Rattle.raf.specs.Storage.{resized}
 use Rattle.raf.specs.File.{File, chunk_count, chunk_len, file_layout}

@@ -1,4 +1,4 @@
--- An algorithm as the file sees it: what it seals, opens and derives.
+-- An algorithm as the file sees it: what it seals, opens and derives (this project's own).
 use Rattle.std.specs.Prelude.{◌≡◌, ℕ, ◌+◌, ◌-◌, ◌≤◌, List, ◌++◌, length, take, drop, Option, Some}
 use Rattle.aegis_core.specs.Sealing.{seal, unsealed, key_len, nonce_len}
 use Rattle.aegis_core.specs.Keys.{header_key, chunk_key, header_mac}

@@ -1,4 +1,4 @@
--- What a command concerns: the size afterwards, the chunks that it needs, and those that it touches; and whether it is valid.
+-- What a command concerns: the size afterwards, the chunks that it needs, and those that it touches; and whether it is valid (this project's own).
 use Rattle.std.specs.Prelude.{ℕ, zero, suc, ◌+◌, ◌*◌, ◌^◌, min, max, Bool, true, false, ◌&&◌, ◌||◌, not, if◌then◌else◌, nat_lt, nat_le, nat_eq, List, [], ◌∷◌, length, Option, Some, None, is_some}
 use Rattle.raf.specs.File.{File, chunk_count, chunk_len, layout_len}
 use Rattle.raf.specs.declared.command.Command.{Command}

@@ -1,5 +1,5 @@
 -- The bytes of a storage after commands, each new record sealed under the nonce that stood in front of the random source; and the
--- most that commands ask.
+-- most that commands ask (this project's own).
 use Rattle.std.specs.Prelude.{ℕ, ◌+◌, ◌-◌, ◌*◌, Bool, true, false, not, if◌then◌else◌, nat_eq, nat_lt, List, [], ◌∷◌, ◌++◌, take, drop, Option, Some, None, unwrap_or}
 use Rattle.raf.specs.Cipher.{Cipher}
 use Rattle.raf.specs.Header.{sealed_header}

@@ -1,4 +1,4 @@
--- Why a record was not opened, and what a write leaves.
+-- Why a record was not opened, and what a write leaves (this project's own).
 use Rattle.std.specs.Prelude.{◌≡◌, ℕ, ◌+◌, ◌≤◌, List, length, take, Option, Some, if◌then◌else◌, nat_eq}
 use Rattle.raf.specs.Outside.{Outside, Quiet, Caused, Moved}
 use Rattle.raf.specs.declared.errors.ErrorKind.{ErrorKind}

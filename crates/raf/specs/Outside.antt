@@ -1,4 +1,4 @@
--- The storage and the random source of a file, as their traits' meanings tell of them, and how they move.
+-- The storage and the random source of a file, as their traits' meanings tell of them, and how they move (this project's own).
 use Rattle.std.specs.Prelude.{◌≡◌, ℕ, ◌+◌, ◌≤◌, max, List, Option}
 use Rattle.raf.specs.Counts.{Rose}
 use Rattle.raf.specs.declared.errors.ErrorKind.{ErrorKind}

@@ -1,4 +1,4 @@
--- What a session answers.
+-- What a session answers (this project's own).
 use Rattle.std.specs.Prelude.{◌≡◌, ℕ, ◌+◌, ◌-◌, ◌*◌, ◌^◌, ◌<◌, ◌≤◌, min, max, false, if◌then◌else◌, nat_eq, List, [], ◌∷◌, ◌++◌, length, take, drop, slice_index, Option, Some, Result, IfOk, IfErr, ⊤, ◌⊎◌}
 use Rattle.raf.specs.Counts.{Rose}
 use Rattle.raf.specs.Source.{Takes, TakesAtMost}

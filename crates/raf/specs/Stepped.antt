@@ -1,4 +1,4 @@
--- One command on an open file: what the code of a session hands from one command to the next.
+-- One command on an open file: what the code of a session hands from one command to the next (this project's own).
 use Rattle.std.specs.Prelude.{◌≡◌, ℕ, zero, suc, ◌+◌, max, true, false, List, [], ◌∷◌, ◌++◌, length, take, drop, Option, Some, replicate}
 use Rattle.raf.specs.Storage.{resized}
 use Rattle.raf.specs.Source.{Takes, TakesAtMost}

@@ -1,4 +1,4 @@
--- The lines of a text, and readings that name the line that is wrong.
+-- The lines of a text, and readings that name the line that is wrong (this project's own).
 use Rattle.std.specs.Prelude.{◌≡◌, ◌∷◌, [], ℕ, List, length, Option, Some, None, Result, Ok, Err, if◌then◌else◌, ◌==◌}
 use Rattle.raf_tool.specs.Words.{parts}
 use Rattle.raf_tool.specs.declared.script.ScriptError.{ScriptError}

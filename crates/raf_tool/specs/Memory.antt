@@ -1,4 +1,4 @@
--- What contracts see of the source and the sink in memory.
+-- What contracts see of the source and the sink in memory (this project's own).
 use Rattle.std.specs.Prelude.{ℕ, List}
 
 -- the bytes that are left or were written, the numbers of the calls that are to fail, how many calls were made, and

@@ -1,4 +1,4 @@
--- How a script is read, line by line: its content, or the number of the first wrong line.
+-- How a script is read, line by line: its content, or the number of the first wrong line (this project's own).
 use Rattle.std.specs.Prelude.{◌≡◌, ◌∷◌, [], ℕ, ◌+◌, List, length, codes, Option, Some, None, Result, Ok, Err, if◌then◌else◌, ◌==◌, bytes_eq, ◌<◌}
 use Rattle.raf.specs.declared.command.Command.{Command}
 use Rattle.raf.specs.declared.command.Command.TheVariants.{Read, Write, Size}

@@ -1,4 +1,4 @@
--- What a call does to the bytes of a source or a sink.
+-- What a call does to the bytes of a source or a sink (this project's own).
 use Rattle.std.specs.Prelude.{◌≡◌, ◌<◌, ◌≤◌, ℕ, List, length, take, Option, Result, IfOk, is_some}
 use Rattle.std.specs.Io.KnownBytes.{Appends, Consumes}
 

@@ -1,4 +1,4 @@
--- Words, numbers and hex text.
+-- Words, numbers and hex text (this project's own).
 use Rattle.std.specs.Prelude.{◌∷◌, [], ℕ, ◌^◌, ◌&&◌, List, length, codes, Option, Some, None, Result, Ok, Err, if◌then◌else◌, nat_eq, nat_lt, bytes_eq, decimal, ◌≡◌, ◌≢◌, ◌<◌, slice_index}
 use Rattle.std.specs.List.{slice_split}
 use Rattle.std.specs.Str.Parse.{digits_value}
