@@ -1,4 +1,4 @@
-//! AEGIS-256X4, four lanes.
+//! AEGIS-256X4, four lanes (AEGIS specification, "Parallel Modes", in this project's own profile).
 
 ghost use Rattle.std.specs.Prelude.{refl};
 ghost use Rattle.aegis_core.specs.declared.variant.Variant.TheVariants.{Aegis256X4};
@@ -6,10 +6,10 @@ ghost use Rattle.aegis_core.specs.declared.variant.Variant.TheVariants.{Aegis256
 pub use aegis_core::Error;
 use aegis_core::{Cipher, CipherKind, Mac, Names, SoftLanes256, Variant};
 
-/// A key.
+/// A key of 32 bytes.
 pub type Key = [u8; 32];
 
-/// A nonce, for one message under a key.
+/// A nonce of 32 bytes, for one message under a key.
 pub type Nonce = [u8; 32];
 
 /// A tag of 16 or 32 bytes.
@@ -35,7 +35,7 @@ pub type Decryptor<'a, const TAG_BYTES: usize> = aegis_core::Decryptor<
     TAG_BYTES,
 >;
 
-/// The MAC of a text that comes in pieces.
+/// The MAC of a text that comes in pieces, whose values are this project's own.
 pub type Aegis256X4Mac<const TAG_BYTES: usize> = Mac<Kind, SoftLanes256, 32, TAG_BYTES>;
 
 /// What tells Aegis256X4 from the other ciphers.

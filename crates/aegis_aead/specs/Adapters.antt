@@ -1,4 +1,4 @@
--- What an adapter holds.
+-- What an adapter holds (this project's own).
 use Rattle.std.specs.Prelude.{ℕ, List}
 use Rattle.aegis_aead.specs.declared.adapter.Adapter.{Adapter}
 

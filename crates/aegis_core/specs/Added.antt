@@ -1,4 +1,4 @@
--- A keystream added to the front of a list.
+-- A keystream added to the front of a list (this project's own).
 use Rattle.std.specs.Prelude.{◌≡◌, ℕ, List, length, take, drop}
 use Rattle.aes_spec.specs.Bytes.{xor_bytes}
 

@@ -1,4 +1,4 @@
--- A list of bytes cut into blocks of r bytes, the last one padded with zeros.
+-- A list of bytes cut into blocks of r bytes, the last one padded with zeros (AEGIS specification, ZeroPad and Split).
 use Rattle.std.specs.Prelude.{ℕ, zero, suc, ◌-◌, ◌*◌, ◌%◌, ◌/◌, List, [], ◌∷◌, ◌++◌, length, take, drop, replicate}
 
 -- block i of p

@@ -1,4 +1,4 @@
--- What the calls of a cipher answer.
+-- What the calls of a cipher answer (this project's own).
 use Rattle.std.specs.Prelude.{ℕ, List, None, ⊤}
 use Rattle.aegis_core.specs.Sealing.{Unseals}
 use Rattle.aegis_core.specs.declared.variant.Variant.{Variant}

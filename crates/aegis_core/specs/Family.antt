@@ -1,4 +1,4 @@
--- Sealing, unsealing and the MAC, over what a family of AEGIS ciphers gives.
+-- Sealing, unsealing and the MAC, over what a family of AEGIS ciphers gives (AEGIS specification; the MAC is this project's own).
 use Rattle.std.specs.Prelude.{ℕ, ◌+◌, ◌*◌, ◌/◌, List, [], ◌∷◌, ◌++◌, length, take, replicate, fold, Option, Some, None, if◌then◌else◌}
 use Rattle.std.specs.Str.{bytes_eq}
 use Rattle.aes_spec.specs.Bytes.{xor_bytes}

@@ -1,4 +1,4 @@
--- What a state of the code holds, given the bytes of a block.
+-- What a state of the code holds, given the bytes of a block (this project's own).
 use Rattle.std.specs.Prelude.{ℕ, List, [], ◌∷◌, ◌++◌}
 use Rattle.aegis_core.specs.Lanes.{Lane, State}
 use Rattle.aegis_core.specs.Family.{Family, family_128, family_256}

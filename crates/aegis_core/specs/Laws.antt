@@ -1,4 +1,4 @@
--- What sealing promises to those that know nothing of its blocks.
+-- What sealing promises to those that know nothing of its blocks (this project's own).
 use Rattle.std.specs.Prelude.{◌≡◌, ℕ, List, length, Option, Some}
 use Rattle.aes_spec.specs.Bytes.{xor_bytes}
 use Rattle.aegis_core.specs.Sealing.{seal, unsealed, mac, stream, Unseals}

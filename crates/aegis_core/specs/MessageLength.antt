@@ -1,4 +1,4 @@
--- What contracts see of the length of a message that comes in pieces.
+-- What contracts see of the length of a message that comes in pieces (this project's own).
 use Rattle.std.specs.Prelude.{ℕ}
 use Rattle.aegis_core.specs.declared.message_length.MessageLength.{MessageLength}
 

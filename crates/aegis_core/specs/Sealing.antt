@@ -1,4 +1,4 @@
--- Sealing, unsealing, MAC and stream of each cipher.
+-- Sealing, unsealing, MAC and stream of each cipher (AEGIS specification; the MAC is this project's own).
 use Rattle.std.specs.Prelude.{◌≡◌, ℕ, List, [], replicate, Option, Some, None}
 use Rattle.aegis_core.specs.Family.{Family, family_128, family_256, sealed_by, unsealed_by, mac_by}
 use Rattle.aegis_core.specs.declared.variant.Variant.{Variant}

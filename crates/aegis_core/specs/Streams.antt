@@ -1,4 +1,4 @@
--- What a message, a cipher text and a text hold that come in pieces.
+-- What a message, a cipher text and a text hold that come in pieces (this project's own).
 use Rattle.std.specs.Prelude.{◌≡◌, ℕ, ◌+◌, ◌^◌, ◌<◌, ◌≤◌, List, []}
 use Rattle.aegis_core.specs.Lanes.{State}
 use Rattle.aegis_core.specs.Family.{Family, cipher_text, keyed}
@@ -45,7 +45,8 @@ RefusesPiece room written total len OutOfMemory = ⊥
 abbrev pub mac_total : {K S : Type 0} {n t : ℕ} → Mac K S n t → ℕ
 mac_total m = total_of m.pieces
 
--- a MAC holds the text under key and nonce, and keeps the empty text under them
+-- a MAC holds the text under key and nonce, and keeps the initial state under them
 pub record Authenticates {K S : Type 0} {n t : ℕ} (family : S → Family) (lanes : S → State) (v : Variant) (m : Mac K S n t) (key nonce text : List ℕ) : Type 0 where
   pub holds : Holds family lanes (family_of v) m.pieces key nonce [] text
-  pub empty : Holds family lanes (family_of v) m.empty key nonce [] []
+  pub same : family m.initial ≡ family_of v
+  pub initial : lanes m.initial ≡ (family_of v).initial key nonce

@@ -1,4 +1,4 @@
--- The last bytes of an input, which are less than a block.
+-- The last bytes of an input, which are less than a block (AEGIS specification, ZeroPad).
 use Rattle.std.specs.Prelude.{ℕ, ◌-◌, List, [], ◌∷◌, ◌++◌, length, replicate}
 use Rattle.aegis_core.specs.Lanes.{State}
 use Rattle.aegis_core.specs.Family.{Family}

@@ -1,4 +1,4 @@
--- What contracts see of a lent destination.
+-- What contracts see of a lent destination (this project's own).
 use Rattle.std.specs.Prelude.{ℕ, List}
 
 -- the bytes that are written, and how many there may be

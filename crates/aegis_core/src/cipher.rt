@@ -47,7 +47,7 @@ impl<
     }
 
     /// Encrypts `mc` in place: afterwards it holds the cipher text of what it held, whose tag is the
-    /// answer.
+    /// answer (AEGIS specification, "Authenticated Encryption").
     pub fn encrypt_in_place(self, mc: &mut [u8], ad: &[u8]) -> [u8; TAG_BYTES]
         requires tag_bytes { (TAG_BYTES ≡ 16) ⊎ (TAG_BYTES ≡ 32) }
         requires ad_len { length ad.now < 2 ^ 61 }
@@ -79,7 +79,8 @@ impl<
     }
 
     /// Decrypts `mc` in place: the answer is Ok exactly where a message has this cipher text and tag,
-    /// and `mc` then holds it. Else every byte of `mc` is 0xaa, and the refusal is `InvalidTag`.
+    /// and `mc` then holds it. Else every byte of `mc` is 0xaa, and the refusal is `InvalidTag` (AEGIS
+    /// specification, "Authenticated Decryption"; the byte is this project's own).
     pub fn decrypt_in_place(
         &self,
         mc: &mut [u8],
@@ -122,7 +123,7 @@ impl<
         Ok(mc)
     }
 
-    /// A message to be encrypted piece by piece, after this associated data.
+    /// A message to be encrypted piece by piece, after this associated data of at most 2^61 - 1 bytes.
     pub fn encryptor(&self, associated_data: &[u8]) -> Encryptor<K, S, KEY_BYTES, TAG_BYTES>
         requires { length associated_data.now < 2 ^ 61 }
         ensures total { encrypted_total result ≡ 0 }
@@ -131,7 +132,8 @@ impl<
         Encryptor::start(&self.key, &self.nonce, associated_data)
     }
 
-    /// A message to be decrypted piece by piece into `plaintext`, after this associated data.
+    /// A message to be decrypted piece by piece into `plaintext`, after this associated data of at most
+    /// 2^61 - 1 bytes.
     pub fn decryptor<'a>(
         &self,
         associated_data: &[u8],
@@ -146,7 +148,8 @@ impl<
         Decryptor::start(&self.key, &self.nonce, associated_data, plaintext)
     }
 
-    /// Fills `out` with the keystream: the cipher text of zeros.
+    /// Fills `out` with the keystream: the cipher text of zeros (AEGIS specification, "AEGIS as a Stream
+    /// Cipher").
     pub fn stream(self, out: &mut [u8])
         ensures { out.new ≡ stream K.variant (key_of self) (nonce_of self) (length out.old) }
     {

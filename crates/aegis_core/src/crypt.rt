@@ -101,6 +101,7 @@ fn clear(out: &mut [u8])
     out.fill(0);
 }
 
+// Whether two tags are one.
 pub fn are_same(a: &[u8], b: &[u8]) -> bool
     ensures yes { OnTrue result (a.now ≡ b.now) }
     ensures no { OnFalse result (a.now ≢ b.now) }

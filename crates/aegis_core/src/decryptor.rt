@@ -14,8 +14,9 @@ use std::fmt;
 use std::marker::PhantomData;
 
 /// A cipher text that is decrypted piece by piece into a lent destination, whose bytes come out only
-/// where the tag fits. The written bytes are overwritten with zeros under a wrong tag and where it is
-/// let go without `finalize`, and so is the state.
+/// where the tag fits (AEGIS specification, "Authenticated Decryption"). The written bytes are
+/// overwritten with zeros under a wrong tag and where it is let go without `finalize`. The state is
+/// overwritten in each case.
 pub struct Decryptor<'a, K, S: LaneState, const KEY_BYTES: usize, const TAG_BYTES: usize> {
     pieces: Pieces<S>,
     out: Quarantine<'a>,
@@ -50,7 +51,7 @@ impl<
     }
 
     /// Decrypts the next piece. `OutputBufferTooSmall` exactly where it has no room in the destination,
-    /// else `MessageTooLong` exactly where the total would pass 2^61 - 1; a refusal changes nothing.
+    /// else `MessageTooLong` exactly where the total would pass 2^61 - 1 bytes; a refusal changes nothing.
     pub fn update(&mut self, ciphertext: &[u8]) -> Result<(), Error>
         ensures ok { IsOk result ↔ ((length (decrypted_bytes self.old) + length ciphertext.now ≤ decrypted_room self.old)
             × (decrypted_total self.old + length ciphertext.now < 2 ^ 61)) }
@@ -83,12 +84,13 @@ impl<
         ensures refused { IfErr result (λ e. e ≡ Error.InvalidTag) }
     {
         let Decryptor {
-            pieces,
+            mut pieces,
             mut out,
             kind: _,
         } = self;
         let mut expected = [0; TAG_BYTES];
         pieces.tag(&mut expected);
+        pieces.clear();
         if are_same(&expected, tag) {
             Ok(out.release())
         } else {

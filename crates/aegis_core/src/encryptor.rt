@@ -11,7 +11,7 @@ use std::fmt;
 use std::marker::PhantomData;
 
 /// A message that is encrypted piece by piece. However it was cut, cipher text and tag are those of
-/// the whole. The state is overwritten when it is let go.
+/// the whole (AEGIS specification, "Authenticated Encryption"). The state is overwritten when it is let go.
 pub struct Encryptor<K, S: LaneState, const KEY_BYTES: usize, const TAG_BYTES: usize> {
     pieces: Pieces<S>,
     kind: PhantomData<K>,
@@ -39,14 +39,14 @@ impl<
         }
     }
 
-    /// Whether `len` more bytes keep the total at most 2^61 - 1.
+    /// Whether `len` more bytes keep the total at most 2^61 - 1 bytes.
     pub fn fits(&self, len: usize) -> bool
         ensures { IsTrue result ↔ (encrypted_total self.now + len < 2 ^ 61) }
     {
         self.pieces.fits(len)
     }
 
-    /// Encrypts the next piece in place.
+    /// Encrypts the next piece in place. The total stays at most 2^61 - 1 bytes (`fits` tells).
     pub fn update_in_place(&mut self, buffer: &mut [u8])
         requires { encrypted_total self.old + length buffer.old < 2 ^ 61 }
         ensures total { encrypted_total self.new ≡ encrypted_total self.old + length buffer.old }
@@ -58,7 +58,8 @@ impl<
         self.pieces.encrypt(buffer);
     }
 
-    /// Encrypts the next piece into a destination of its length.
+    /// Encrypts the next piece into a destination of its length. The total stays at most 2^61 - 1 bytes
+    /// (`fits` tells).
     pub fn update(&mut self, plaintext: &[u8], ciphertext: &mut [u8])
         requires same { length plaintext.now ≡ length ciphertext.old }
         requires fits { encrypted_total self.old + length plaintext.now < 2 ^ 61 }
@@ -72,7 +73,7 @@ impl<
         self.update_in_place(ciphertext);
     }
 
-    /// The tag of the message.
+    /// The tag of the message, 16 or 32 bytes.
     pub fn finalize(self) -> [u8; TAG_BYTES]
         requires { (TAG_BYTES ≡ 16) ⊎ (TAG_BYTES ≡ 32) }
         ensures { (key nonce ad m : List ℕ) → Encrypts S.family S.lanes K.variant self key nonce ad m

@@ -9,7 +9,8 @@ use crate::crypt::mac_lanes;
 use crate::lanes128::Lanes128;
 use softaes::Block;
 
-/// The MAC of `text` under `key` and the nonce of zeros, a tag of 16 or 32 bytes.
+/// The MAC of `text`, of at most 2^61 - 1 bytes, under `key` and the nonce of zeros: a tag of 16 or 32
+/// bytes (this project's own).
 pub fn mac128l(key: &[u8; 16], text: &[u8], tag: &mut [u8])
     requires tag_len { (length tag.old ≡ 16) ⊎ (length tag.old ≡ 32) }
     requires text_len { length text.now < 2 ^ 61 }

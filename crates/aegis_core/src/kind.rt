@@ -10,9 +10,13 @@ use crate::variant::Variant;
 /// The names of a cipher's types, as their debug texts show them.
 #[derive(Clone, Copy)]
 pub struct Names {
+    /// The cipher, for instance `Aegis128L`.
     pub cipher: &'static str,
+    /// Its `Encryptor`, with the module.
     pub encryptor: &'static str,
+    /// Its `Decryptor`, with the module.
     pub decryptor: &'static str,
+    /// Its MAC.
     pub mac: &'static str,
 }
 
@@ -33,8 +37,9 @@ pub trait CipherKind<S: LaneState, const KEY_BYTES: usize>: Copy {
         ensures family { S.family result ≡ family_of variant }
         ensures initial { S.lanes result ≡ (family_of variant).initial key.now nonce.now };
 
-    /// Its keys and nonces have this length.
+    /// Its keys have this length, in bytes.
     ghost key: { key_len variant ≡ KEY_BYTES };
 
+    /// Its nonces have this length, in bytes.
     ghost nonce: { nonce_len variant ≡ KEY_BYTES };
 }

@@ -1,4 +1,5 @@
-//! The AEGIS ciphers over AES rounds: lane states, sealing and unsealing in place, and MACs.
+//! The AEGIS ciphers over AES rounds: lane states, sealing and unsealing in place, keystreams, messages
+//! in pieces, MACs, and the types that the six ciphers share.
 #![tactic(auto)]
 
 mod blocks;

@@ -12,11 +12,13 @@ use crate::pieces::Pieces;
 use std::fmt;
 use std::marker::PhantomData;
 
-/// The MAC of a text that comes in pieces. However it was cut, the tag is that of the whole.
+/// The MAC of a text that comes in pieces. However it was cut, the tag is that of the whole. The values
+/// are this project's own: the text is absorbed as associated data is, and the last updates take in its
+/// length and the tag's, in bits.
 #[derive(Drop)]
 pub struct Mac<K, S, const KEY_BYTES: usize, const TAG_BYTES: usize> {
     pieces: Pieces<S>,
-    empty: Pieces<S>,
+    initial: S,
     kind: PhantomData<K>,
 }
 
@@ -39,22 +41,22 @@ impl<K: CipherKind<S, KEY_BYTES>, S: LaneState, const KEY_BYTES: usize, const TA
         ensures total { mac_total result ≡ 0 }
         ensures holds { Authenticates S.family S.lanes K.variant result key.now npub.now [] }
     {
-        let empty = Pieces::start(K::lanes(key, npub), &[]);
+        let initial = K::lanes(key, npub);
         Mac {
-            pieces: empty,
-            empty,
+            pieces: Pieces::start(initial, &[]),
+            initial,
             kind: PhantomData,
         }
     }
 
-    /// Whether `len` more bytes keep the total at most 2^61 - 1.
+    /// Whether `len` more bytes keep the total at most 2^61 - 1 bytes.
     pub fn fits(&self, len: usize) -> bool
         ensures { IsTrue result ↔ (mac_total self.now + len < 2 ^ 61) }
     {
         self.pieces.fits(len)
     }
 
-    /// Takes in the next piece.
+    /// Takes in the next piece. The total stays at most 2^61 - 1 bytes (`fits` tells).
     pub fn update(&mut self, m: &[u8])
         requires { mac_total self.old + length m.now < 2 ^ 61 }
         ensures total { mac_total self.new ≡ mac_total self.old + length m.now }
@@ -64,7 +66,7 @@ impl<K: CipherKind<S, KEY_BYTES>, S: LaneState, const KEY_BYTES: usize, const TA
         self.pieces.absorb(m);
     }
 
-    /// The tag of the text.
+    /// The tag of the text, 16 or 32 bytes.
     pub fn finalize(self) -> [u8; TAG_BYTES]
         requires { (TAG_BYTES ≡ 16) ⊎ (TAG_BYTES ≡ 32) }
         ensures { (key nonce text : List ℕ) → Authenticates S.family S.lanes K.variant self key nonce text
@@ -80,7 +82,7 @@ impl<K: CipherKind<S, KEY_BYTES>, S: LaneState, const KEY_BYTES: usize, const TA
         requires { (TAG_BYTES ≡ 16) ⊎ (TAG_BYTES ≡ 32) }
         ensures tag { (key nonce text : List ℕ) → Authenticates S.family S.lanes K.variant self.old key nonce text
             → result ≡ mac K.variant TAG_BYTES key nonce text }
-        ensures total { (key nonce text : List ℕ) → Authenticates S.family S.lanes K.variant self.old key nonce text → mac_total self.new ≡ 0 }
+        ensures total { mac_total self.new ≡ 0 }
         ensures holds { (key nonce text : List ℕ) → Authenticates S.family S.lanes K.variant self.old key nonce text
             → Authenticates S.family S.lanes K.variant self.new key nonce [] }
     {
@@ -107,11 +109,11 @@ impl<K: CipherKind<S, KEY_BYTES>, S: LaneState, const KEY_BYTES: usize, const TA
 
     /// The empty text again, under the same key and nonce.
     pub fn reset(&mut self)
-        ensures total { (key nonce text : List ℕ) → Authenticates S.family S.lanes K.variant self.old key nonce text → mac_total self.new ≡ 0 }
+        ensures total { mac_total self.new ≡ 0 }
         ensures holds { (key nonce text : List ℕ) → Authenticates S.family S.lanes K.variant self.old key nonce text
             → Authenticates S.family S.lanes K.variant self.new key nonce [] }
     {
-        self.pieces = self.empty;
+        self.pieces = Pieces::start(self.initial, &[]);
     }
 
     /// Another MAC of the same text.
@@ -120,7 +122,7 @@ impl<K: CipherKind<S, KEY_BYTES>, S: LaneState, const KEY_BYTES: usize, const TA
     {
         Mac {
             pieces: self.pieces,
-            empty: self.empty,
+            initial: self.initial,
             kind: PhantomData,
         }
     }

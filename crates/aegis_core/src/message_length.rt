@@ -6,7 +6,7 @@ use crate::error::Error;
 use std::alloc::AllocError;
 
 // The most bytes that a message has, 2^61 - 1.
-const MOST: u64 = 0x1fff_ffff_ffff_ffff;
+pub const MOST: u64 = 0x1fff_ffff_ffff_ffff;
 
 /// The total length of a message that comes in pieces, in bytes.
 pub struct MessageLength {
@@ -44,7 +44,7 @@ impl MessageLength {
         self.total
     }
 
-    /// Whether the total with `len` more bytes is at most 2^61 - 1.
+    /// Whether the total with `len` more bytes is at most 2^61 - 1 bytes.
     pub fn fits(&self, len: usize) -> bool
         ensures { IsTrue result ↔ (message_total self.now + len < 2 ^ 61) }
     {

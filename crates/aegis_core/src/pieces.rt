@@ -7,10 +7,9 @@ use crate::crypt::{absorb_all, absorb_tail};
 use crate::lane_state::LaneState;
 use crate::lanes128::Lanes128;
 use crate::lanes256::Lanes256;
+use crate::message_length::MOST;
 use softaes::Block;
 use std::alloc::AllocError;
-
-const MOST: u64 = 0x1fff_ffff_ffff_ffff;
 
 /// A message that comes piece by piece: the lanes have taken in its whole blocks, and the bytes that
 /// are left stand in front of a block.
@@ -51,7 +50,8 @@ impl<S: LaneState> Pieces<S> {
     ghost use Rattle.aegis_core.specs.Family.{Family, absorbed, cipher_text, keyed, sealed_by, mac_by};
     ghost use Rattle.aegis_core.specs.Pieces.{Holds, total_of};
 
-    /// The empty message, after associated data, on lanes in their initial state.
+    /// The empty message, after associated data of at most 2^61 - 1 bytes, on lanes in their initial
+    /// state.
     pub fn start(lanes: S, ad: &[u8]) -> Pieces<S>
         requires { length ad.now < 2 ^ 61 }
         ensures total { total_of result ≡ 0 }
@@ -68,14 +68,14 @@ impl<S: LaneState> Pieces<S> {
         }
     }
 
-    /// Whether `len` more bytes keep the total at most 2^61 - 1.
+    /// Whether `len` more bytes keep the total at most 2^61 - 1 bytes.
     pub fn fits(&self, len: usize) -> bool
         ensures { IsTrue result ↔ (total_of self.now + len < 2 ^ 61) }
     {
         len as u64 <= MOST - self.total
     }
 
-    // Takes in bytes that go no further than the block.
+    // Takes in bytes that go no further than the block; a whole block goes straight through.
     fn take_in(&mut self, piece: &[u8])
         requires room { self.old.total % (S.family self.old.lanes).rate + length piece.now ≤ (S.family self.old.lanes).rate }
         requires fits { self.old.total + length piece.now < 2 ^ 61 }
@@ -85,6 +85,11 @@ impl<S: LaneState> Pieces<S> {
             → Holds S.family S.lanes f self.new key nonce ad (m ++ piece.now) }
     {
         let rate = self.lanes.rate();
+        if piece.len() == rate {
+            self.lanes.absorb(piece);
+            self.total += rate as u64;
+            return;
+        }
         let used = (self.total % rate as u64) as usize;
         self.block[used..used + piece.len()].copy_from_slice(piece);
         self.total += piece.len() as u64;
@@ -141,7 +146,8 @@ impl<S: LaneState> Pieces<S> {
         self.take_in(piece);
     }
 
-    /// Encrypts the next piece in place.
+    /// Encrypts the next piece in place: the bytes of the whole cipher text (AEGIS specification,
+    /// "Authenticated Encryption") from the bytes so far on. The total stays at most 2^61 - 1 bytes.
     pub fn encrypt(&mut self, piece: &mut [u8])
         requires { total_of self.old + length piece.old < 2 ^ 61 }
         ensures total { total_of self.new ≡ total_of self.old + length piece.old }
@@ -160,7 +166,8 @@ impl<S: LaneState> Pieces<S> {
         }
     }
 
-    /// Decrypts the next piece in place.
+    /// Decrypts the next piece in place, as `encrypt` would have encrypted it. The total stays at most
+    /// 2^61 - 1 bytes.
     pub fn decrypt(&mut self, piece: &mut [u8])
         requires { total_of self.old + length piece.old < 2 ^ 61 }
         ensures total { total_of self.new ≡ total_of self.old + length piece.old }
@@ -179,7 +186,7 @@ impl<S: LaneState> Pieces<S> {
         }
     }
 
-    /// Takes in the next piece of a text whose MAC is wanted.
+    /// Takes in the next piece of a text whose MAC is wanted. The total stays at most 2^61 - 1 bytes.
     pub fn absorb(&mut self, piece: &[u8])
         requires { total_of self.old + length piece.now < 2 ^ 61 }
         ensures total { total_of self.new ≡ total_of self.old + length piece.now }
@@ -222,7 +229,7 @@ impl<S: LaneState> Pieces<S> {
         lanes
     }
 
-    /// The tag of the message, of 16 or 32 bytes.
+    /// The tag of the message, of 16 or 32 bytes (AEGIS specification, "The Finalize Function").
     pub fn tag(self, tag: &mut [u8])
         requires { (length tag.old ≡ 16) ⊎ (length tag.old ≡ 32) }
         ensures { (f : Family) (key nonce ad m : List ℕ) → Holds S.family S.lanes f self key nonce ad m
@@ -231,8 +238,8 @@ impl<S: LaneState> Pieces<S> {
         self.ended().finalise(8 * self.ad_len, 8 * self.total, tag);
     }
 
-    /// The MAC of the text that was taken in, of 16 or 32 bytes, on lanes that began without associated
-    /// data.
+    /// The MAC of the text that was taken in, of 16 or 32 bytes (this project's own), on lanes that began
+    /// without associated data.
     pub fn mac_tag(self, tag: &mut [u8])
         requires { (length tag.old ≡ 16) ⊎ (length tag.old ≡ 32) }
         ensures { (f : Family) (key nonce m : List ℕ) → Holds S.family S.lanes f self key nonce [] m
@@ -255,7 +262,8 @@ impl Pieces<Lanes128<Block>> {
     ghost use Rattle.aegis_core.specs.Lanes.{IsLaneCount};
     ghost use Rattle.aegis_core.specs.Pieces.{Holds, total_of};
 
-    /// The empty message on `lanes` lanes, 1, 2 or 4, under key and nonce, after associated data.
+    /// The empty message on `lanes` lanes, 1, 2 or 4, under key and nonce, after associated data of at
+    /// most 2^61 - 1 bytes.
     pub fn new(lanes: usize, key: &[u8; 16], nonce: &[u8; 16], ad: &[u8]) -> Pieces128
         requires lanes { IsLaneCount lanes }
         requires ad_len { length ad.now < 2 ^ 61 }
@@ -272,7 +280,8 @@ impl Pieces<Lanes256<Block>> {
     ghost use Rattle.aegis_core.specs.Lanes.{IsLaneCount};
     ghost use Rattle.aegis_core.specs.Pieces.{Holds, total_of};
 
-    /// The empty message on `lanes` lanes, 1, 2 or 4, under key and nonce, after associated data.
+    /// The empty message on `lanes` lanes, 1, 2 or 4, under key and nonce, after associated data of at
+    /// most 2^61 - 1 bytes.
     pub fn new(lanes: usize, key: &[u8; 32], nonce: &[u8; 32], ad: &[u8]) -> Pieces256
         requires lanes { IsLaneCount lanes }
         requires ad_len { length ad.now < 2 ^ 61 }

@@ -105,8 +105,8 @@ pub fn unseal_in_place(
 }
 
 /// The laws of sealing with tags of 16 or 32 bytes, for the proofs of callers: lengths are kept, what
-/// was sealed opens to itself and nothing else opens, and the cipher text determines the message. The
-/// call does nothing.
+/// was sealed opens to itself and nothing else opens, the cipher text determines the message, the tag's
+/// length plays no part in it, and the keystream added twice gives a message back. The call does nothing.
 pub fn sealing_laws(variant: Variant, tag_len: usize)
     requires { (tag_len ≡ 16) ⊎ (tag_len ≡ 32) }
     ensures { IsSealing variant tag_len }

@@ -1,4 +1,4 @@
--- Functions on lists of bytes, place by place.
+-- Functions on lists of bytes, place by place: the addition of bytes (FIPS 197, section 4.1), and the AND of the AEGIS specification's blocks.
 use Rattle.std.specs.Prelude.{ℕ, List, [], ◌∷◌, bit_xor, bit_and}
 
 -- f at each place that both lists have; past the end of ys the bytes of xs

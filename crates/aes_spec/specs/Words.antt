@@ -1,4 +1,4 @@
--- Words by their bytes, the lowest first.
+-- Words by their bytes, the lowest first (this project's own).
 use Rattle.std.specs.Prelude.{ℕ, ◌*◌, ◌/◌, ◌%◌, ◌^◌}
 
 -- byte k of a word

@@ -1,4 +1,4 @@
--- What the helpers of MixColumns make of a word of two columns, each of four bytes, little-endian.
+-- What the helpers of MixColumns make of a word of two columns, each of four bytes, little-endian (this project's own).
 use Rattle.std.specs.Prelude.{ℕ, ◌*◌, ◌/◌, ◌%◌, ◌^◌, bit_and, bit_xor}
 
 -- each row and the row below it, added

@@ -1,4 +1,4 @@
--- A block of four column words as its 16 bytes.
+-- A block of four column words as its 16 bytes (this project's own).
 use Rattle.std.specs.Prelude.{◌≡◌, ℕ, ◌*◌, ◌^◌, ◌<◌, List, ◌++◌, take, drop}
 use Rattle.std.specs.Int.{to_le_bytes, from_le_bytes, w32}
 use Rattle.std.proofs.lemmas.Nat.{from_le_bytes-to_le_bytes_4}

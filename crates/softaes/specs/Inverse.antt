@@ -1,4 +1,4 @@
--- The inverse of the linear part of the S-box's affine map, on planes.
+-- The inverse of the linear part of the S-box's affine map, on planes (FIPS 197, section 5.3.2).
 use Rattle.std.specs.Prelude.{ℕ, ◌+◌, ◌%◌, List, map, slice_index, bit_xor}
 use Rattle.std.specs.List.{range_with_len}
 

@@ -1,4 +1,4 @@
--- The positions of planes at which a block's bytes stand.
+-- The positions of planes at which a block's bytes stand (this project's own).
 use Rattle.std.specs.Prelude.{◌≡◌, ℕ, ◌+◌, ◌*◌, ◌%◌, ◌<◌, List}
 use Rattle.aes_spec.specs.Planes.{byte_at}
 use Rattle.aes_spec.specs.Words.{word_byte}

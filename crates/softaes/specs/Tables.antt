@@ -1,4 +1,4 @@
--- The rules of the tables, and a column of four bytes.
+-- The rules of the tables, and a column of four bytes (this project's own, from FIPS 197, sections 5.1.3 and 5.3.3).
 use Rattle.std.specs.Prelude.{ℕ, ◌*◌, List, [], ◌∷◌, map, slice_index}
 use Rattle.std.specs.Int.{from_le_bytes, rotate_left, w32}
 use Rattle.std.specs.List.{range_with_len}

@@ -6,7 +6,9 @@ use crate::laws::cipher::{
     ciphered_128, ciphered_192, ciphered_256, deciphered_128, deciphered_192, deciphered_256,
 };
 use crate::unprotected::key_schedule as by_tables;
-use crate::{Block, RoundBlock, SoftAes, key_schedule, unprotected};
+use crate::{
+    Block, RoundBlock, SoftAes, SoftAesFast, SoftAesModerate, SoftAesSlow, key_schedule, unprotected,
+};
 use aes_spec::{gf_mul, sbox};
 use std::test::Fail;
 
@@ -84,6 +86,14 @@ macro_rules! rounds_at_vectors {
 fn rounds_have_the_values_of_the_vectors(rt: HostRuntime) {
     rounds_at_vectors!(rt, Block, SoftAes);
     rounds_at_vectors!(rt, unprotected::Block, unprotected::SoftAes);
+}
+
+#[test]
+fn every_name_of_the_gates_has_the_round(rt: HostRuntime) {
+    let (b, k) = (Block::from_bytes(&COUNTED), Block::from_bytes(&COUNTED_ON));
+    assert_eq!(rt; SoftAesSlow::block_encrypt(&b, &k).to_bytes(), ROUND);
+    assert_eq!(rt; SoftAesModerate::block_encrypt(&b, &k).to_bytes(), ROUND);
+    assert_eq!(rt; SoftAesFast::block_encrypt(&b, &k).to_bytes(), ROUND);
 }
 
 /// A block through all rounds by tables.

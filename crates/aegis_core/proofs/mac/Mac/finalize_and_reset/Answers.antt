@@ -9,8 +9,5 @@ returns-clause-tag g c = λ key nonce text h.
     let v = g.K.CipherKind.variant in
     mac_is v g.row.TAG_BYTES _ key nonce text _ (length-replicate {A = ℕ} g.row.TAG_BYTES 0) (c.mac_tag.ensures (family_of v) key nonce text h.holds)
 
-pub returns-clause-total : goal.returns-clause-total
-returns-clause-total g c = λ key nonce text h. c.reset.ensures.total key nonce text h
-
 pub returns-clause-holds : goal.returns-clause-holds
 returns-clause-holds g c = λ key nonce text h. c.reset.ensures.holds key nonce text h
