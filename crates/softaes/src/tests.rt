@@ -7,7 +7,8 @@ use crate::laws::cipher::{
 };
 use crate::unprotected::key_schedule as by_tables;
 use crate::{
-    Block, RoundBlock, SoftAes, SoftAesFast, SoftAesModerate, SoftAesSlow, key_schedule, unprotected,
+    Block, RoundBlock, SoftAes, SoftAesFast, SoftAesModerate, SoftAesSlow, key_schedule,
+    unprotected,
 };
 use aes_spec::{gf_mul, sbox};
 use std::test::Fail;
