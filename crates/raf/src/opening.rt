@@ -17,9 +17,13 @@ use std::alloc::Global;
 
 /// What an open file keeps: its keys, its header and room for a record.
 pub struct OpenFile<A: Algorithm> {
+    /// The file's key.
     pub key: A::Key,
+    /// The key of its chunks.
     pub chunk_key: A::Key,
+    /// Its header.
     pub header: Header,
+    /// Room for the longest record.
     pub buf: Vec<u8>,
     ghost room: { length buf.items ≡ (cipher_of A.variant).nonce_len + header.chunk_size + 16 },
     ghost one_chunk: { header.file_size ≤ header.chunk_size },

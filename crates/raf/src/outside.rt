@@ -13,7 +13,9 @@ use std::marker::Model;
 
 /// A storage and a source of random bytes.
 pub struct Ports<I: RafIo, R: RafRng> {
+    /// The storage.
     pub io: I,
+    /// The random source.
     pub rng: R,
 }
 

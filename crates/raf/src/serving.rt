@@ -73,9 +73,13 @@ impl<A: Algorithm, R: RafRng, H: MerkleHasher> RafBuilder<A, R, H> {
 /// How a session ended: the replies or why there are none, and what was handed in.
 #[derive(Drop)]
 pub struct SessionEnd<I: RafIo, R: RafRng, H: MerkleHasher> {
+    /// The replies in order, or why nothing was answered.
     pub outcome: Result<Replies, Error>,
+    /// The storage.
     pub io: I,
+    /// The random source.
     pub rng: R,
+    /// The hasher, where there was one.
     pub hasher: Option<H>,
 }
 

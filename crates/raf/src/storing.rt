@@ -14,6 +14,7 @@ use crate::errors::{Error, ErrorKind};
 use crate::format::{Algorithm, Header, header_bytes, nonce_len, seal_record};
 use crate::opening::OpenFile;
 use crate::outside::Ports;
+use crate::overwriting::overwrite;
 use crate::source::RafRng;
 use crate::storage::RafIo;
 
@@ -23,14 +24,6 @@ fn clear_from(bytes: &mut [u8], from: usize)
     ensures { bytes.new ≡ take from bytes.old ++ replicate (length bytes.old - from) 0 }
 {
     bytes[from..].fill(0);
-}
-
-// Puts these bytes in the place of those there.
-fn overwrite(bytes: &mut [u8], at: usize, new: &[u8])
-    requires { at + length new.now ≤ length bytes.old }
-    ensures { bytes.new ≡ take at bytes.old ++ new.now ++ drop (at + length new.now) bytes.old }
-{
-    bytes[at..at + new.len()].copy_from_slice(new);
 }
 
 // Puts the data into a message of which the first bytes are kept.

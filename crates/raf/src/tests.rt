@@ -386,6 +386,8 @@ fn errors_are_printed(rt: HostRuntime) -> Result<(), Fail> {
 #[test]
 fn faults_are_printed(rt: HostRuntime) -> Result<(), Fail> {
     let alloc = rt.alloc();
+    let fault = std::io::Error::from(std::io::ErrorKind::NotFound);
+    assert!(rt; prints(alloc, Error::Io(fault), "I/O error: entity not found")?);
     assert!(rt; prints(alloc, Error::Rng, "random number generator error")?);
     assert!(rt; prints(alloc, Error::Hash, "hasher error")?);
     assert!(rt; prints(alloc, Error::Broken, "file handle is broken")?);
@@ -412,6 +414,9 @@ fn memory_shows_what_it_holds(rt: HostRuntime) -> Result<(), Fail> {
         && io.changes() == 2
         && io.strays() == 0;
     assert!(rt; counted);
+    io.set_size(12)?;
+    assert!(rt; io.bytes() == b"ab\0\0\0\0\0\0\0\0\0\0".as_slice());
+    assert!(rt; io.reach() == 12 && io.changes() == 3);
     Ok(())
 }
 
