@@ -1,5 +1,9 @@
 //! Any reader and any writer of std as a source and a sink, with a count of faults. They tell no bytes.
 ghost use Rattle.std.specs.Prelude.{◌≡◌, None, ℕ};
+ghost use Rattle.std.specs.Io.{ReadsAtMost, WritesAtMost};
+ghost use Rattle.std.specs.Io.KnownBytes.{ReadConsumes, WriteAppends};
+ghost use Rattle.raf.specs.Counts.{HasCause};
+ghost use Rattle.raf_tool.specs.Streams.{TellsAsBefore, TakesSome};
 
 use crate::streams::{Failed, Sink, Source};
 use std::io::{Read, Write};
@@ -26,7 +30,14 @@ impl<T: Read> Source for ReadSource<T> {
 
     ghost faults = { λ s. s.faults };
 
-    fn read(&mut self, buf: &mut [u8]) -> Result<usize, Failed> {
+    fn read(&mut self, buf: &mut [u8]) -> Result<usize, Failed>
+        ensures bound { ReadsAtMost result buf.new }
+        ensures bytes { ReadConsumes None None result buf.new }
+        ensures tells { TellsAsBefore None None }
+        ensures cause { HasCause self.old.faults self.new.faults result }
+        // Of a reader whose bytes are known, it gives just those.
+        ensures reader { ReadConsumes (T.remaining self.old.inner) (T.remaining self.new.inner) result buf.new }
+    {
         match self.inner.read(buf) {
             Ok(count) => Ok(count),
             Err(_) => {
@@ -60,7 +71,15 @@ impl<T: Write> Sink for WriteSink<T> {
     ghost faults = { λ s. s.faults };
 
     // A writer that takes nothing of a piece would be asked for ever: that is a fault.
-    fn write(&mut self, buf: &[u8]) -> Result<usize, Failed> {
+    fn write(&mut self, buf: &[u8]) -> Result<usize, Failed>
+        ensures bound { WritesAtMost result buf.now }
+        ensures some { TakesSome result buf.now }
+        ensures bytes { WriteAppends None None result buf.now }
+        ensures tells { TellsAsBefore None None }
+        ensures cause { HasCause self.old.faults self.new.faults result }
+        // A writer whose bytes are known has them.
+        ensures writer { WriteAppends (T.contents self.old.inner) (T.contents self.new.inner) result buf.now }
+    {
         match self.inner.write(buf) {
             Ok(count) if count != 0 || buf.is_empty() => Ok(count),
             _ => {
