@@ -93,10 +93,7 @@ fn make_record<A: Algorithm, I: RafIo, R: RafRng>(
     ensures moved { Moved ports.old ports.new 0 0 (cipher_of A.variant).nonce_len 0 }
     ensures strays { ports.new.strays ≡ ports.old.strays }
 {
-    match fill_nonce::<A, I, R>(ports, bytes) {
-        Ok(()) => {}
-        Err(e) => return Err(e),
-    }
+    fill_nonce::<A, I, R>(ports, bytes)?;
     stage_record::<A>(bytes, kept, offset, new);
     seal_record::<A>(chunk_key, id, 0, bytes);
     Ok(())
@@ -261,18 +258,10 @@ fn store<A: Algorithm, I: RafIo, R: RafRng>(
         id: old.id,
     };
     let len = nonce_len::<A>() + size as usize + 16;
-    match make_vec::<A, I, R>(ports, chunk_key, &old.id, buf, len, kept, offset, new) {
-        Ok(()) => {}
-        Err(e) => return Err(e),
-    }
-    match write_front::<I, R>(ports, buf, len) {
-        Ok(()) => {}
-        Err(e) => return Err(e),
-    }
-    match write_size::<A, I, R>(ports, key, &header, old.file_size) {
-        Ok(()) => Ok(header),
-        Err(e) => Err(e),
-    }
+    make_vec::<A, I, R>(ports, chunk_key, &old.id, buf, len, kept, offset, new)?;
+    write_front::<I, R>(ports, buf, len)?;
+    write_size::<A, I, R>(ports, key, &header, old.file_size)?;
+    Ok(header)
 }
 
 /// Puts new bytes into the one chunk of an open file, of which the first bytes of the message in the buffer are kept.
@@ -299,7 +288,7 @@ pub fn put<A: Algorithm, I: RafIo, R: RafRng>(
     ensures strays { ports.new.strays ≡ ports.old.strays }
     ensures key { file.new.key ≡ file.old.key }
 {
-    match store::<A, I, R>(
+    file.header = store::<A, I, R>(
         ports,
         &file.key,
         &file.chunk_key,
@@ -308,11 +297,6 @@ pub fn put<A: Algorithm, I: RafIo, R: RafRng>(
         kept,
         offset,
         new,
-    ) {
-        Ok(header) => {
-            file.header = header;
-            Ok(())
-        }
-        Err(e) => Err(e),
-    }
+    )?;
+    Ok(())
 }
