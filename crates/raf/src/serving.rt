@@ -199,7 +199,7 @@ fn serve<A: Algorithm, I: RafIo, R: RafRng>(
 ///
 /// The outcome is an error where nothing was answered and nothing changed: `Unbuilt` where the sum of all read lengths passes
 /// 2^64 - 1; `Io` where the storage failed; `Unbuilt` where its bytes aren't a file of this algorithm, of one chunk at most;
-/// `AuthenticationFailed` where the header's tag is wrong; `OutOfMemory`.
+/// `AuthenticationFailed` where the header's tag is wrong; `OutOfMemory` where no memory was found.
 pub fn session<A: Algorithm, I: RafIo, R: RafRng, H: MerkleHasher>(
     alloc: Global,
     builder: RafBuilder<A, R, H>,
