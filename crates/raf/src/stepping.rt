@@ -59,9 +59,8 @@ fn read_reply<A: Algorithm, I: RafIo, R: RafRng>(
         bytes.truncate(0);
         return Reply::Bytes(Data::from_vec(bytes));
     }
-    match load::<A, I, R>(ports, file) {
-        Ok(()) => {}
-        Err(e) => return Reply::Refused(e.kind()),
+    if let Err(e) = load::<A, I, R>(ports, file) {
+        return Reply::Refused(e.kind());
     }
     let start = offset as usize;
     let n = asked.min(size as usize - start);
@@ -129,9 +128,8 @@ fn write_into<A: Algorithm, I: RafIo, R: RafRng>(
     ensures stepped { Stepped (cipher_of A.variant) (A.key_list file.old.key) file.old.header file.new.header ports.old ports.new (Command.Write offset new.now) result }
     ensures key { file.new.key ≡ file.old.key }
 {
-    match load::<A, I, R>(ports, file) {
-        Ok(()) => {}
-        Err(e) => return Reply::Refused(e.kind()),
+    if let Err(e) = load::<A, I, R>(ports, file) {
+        return Reply::Refused(e.kind());
     }
     let kept = file.header.file_size as usize;
     match put::<A, I, R>(ports, file, kept, offset, new) {

@@ -116,7 +116,7 @@ returns-clause-stepped g c = λ len room.
     omega (arith, ap length copied, length-take (min (offset + len) h.file_size - offset) (drop offset m), length-drop offset m, long) in
     stepped_still C key h between.header old new (Read offset len) (Bytes c.from_vec-2.result) (96 + (C.nonce_len + h.file_size + 16)) (C.nonce_len + h.file_size + 16)
     c.load.ensures.rest.2 refl refl (inr (c.from_vec-2.result, refl, got_len))
-    c.load.ensures.kept c.in-Ok.ensures.quiet c.load.ensures.moved
+    c.load.ensures.kept c.in_default.ensures.quiet c.load.ensures.moved
     (λ F b told held.
     let size : F.size ≡ h.file_size = ap (λ (f : File). f.size) held.file in
     let chunk_size : F.chunk_size ≡ h.chunk_size = ap (λ (f : File). f.chunk_size) held.file in
@@ -125,9 +125,9 @@ returns-clause-stepped g c = λ len room.
     let w = within_file C key b h F (Read offset len) held had one (read_needs F offset len some_F one_F) in
     let got : take (min (offset + len) F.size - offset) (drop offset m) ≡ c.from_vec-2.result = ap (λ (k : ℕ). take (min (offset + len) k - offset) (drop offset m)) size ∙ copied in
     record {
-      is = read_there F offset len some_F one_F m (chunks_loaded C key b h F chunk_key (Some m) held file.derived had one (c.in-Ok.ensures.loaded b told)) ∙ ap (λ (l : List ℕ). (Exactly (Bytes l), F)) got;
+      is = read_there F offset len some_F one_F m (chunks_loaded C key b h F chunk_key (Some m) held file.derived had one (c.in_default.ensures.loaded b told)) ∙ ap (λ (l : List ℕ). (Exactly (Bytes l), F)) got;
       rests = inr (refl, λ i. refl);
-      authentic = authentic_piece C (lawful g.A.Algorithm.variant) key b h F chunk_key offset len m c.from_vec-2.result held file.derived one (c.in-Ok.ensures.loaded b told) long (sym got);
+      authentic = authentic_piece C (lawful g.A.Algorithm.variant) key b h F chunk_key offset len m c.from_vec-2.result held file.derived one (c.in_default.ensures.loaded b told) long (sym got);
       ends = w.end;
       asks = omega (arith, w.traffic);
       strays = c.load.ensures.strays b told w.long;

@@ -54,8 +54,8 @@ returns-in-Err-clause-stepped g c =
       strays = c.load.ensures.strays b told w.long;
     })
 
-pub returns-in-Ok-put-clause-stepped : goal.returns-in-Ok-put-clause-stepped
-returns-in-Ok-put-clause-stepped g c =
+pub returns-in-Ok-clause-stepped : goal.returns-in-Ok-clause-stepped
+returns-in-Ok-clause-stepped g c =
     let C = cipher_of g.A.Algorithm.variant in
     let law = lawful g.A.Algorithm.variant in
     let file = c.args.file.now in
@@ -81,19 +81,19 @@ returns-in-Ok-put-clause-stepped g c =
     moved_less old new _ _ _ _ _ _ _ _ (moved_then old mid new _ _ _ _ _ _ _ _ c.load.ensures.moved put_moved) (omega arith) (omega arith) (omega arith) (omega arith) in
     stepped_stored C law key h old new offset text m (C.nonce_len + h.file_size + 16) c.requires.some c.requires.fits file.one_chunk moved
     c.put.new.file.header nonce
-    (c.in-Ok-put.ensures.header ∙ ap (λ (x : Header). with_size x (max x.file_size (offset + length text))) headers) len
-    (subst (λ (o : Option (List ℕ)). Takes o nonce new.left) c.load.ensures.kept.left c.in-Ok-put.ensures.taken)
-    (quiet_then old mid new c.in-Ok.ensures.quiet c.in-Ok-put.ensures.quiet)
+    (c.in-Ok.ensures.header ∙ ap (λ (x : Header). with_size x (max x.file_size (offset + length text))) headers) len
+    (subst (λ (o : Option (List ℕ)). Takes o nonce new.left) c.load.ensures.kept.left c.in-Ok.ensures.taken)
+    (quiet_then old mid new c.in_default.ensures.quiet c.in-Ok.ensures.quiet)
     (λ F b told held.
     let w = within_file C key b h F (Write offset text) held c.requires.had file.one_chunk (held_needs C law key b h F offset text held c.requires.some c.requires.fits file.one_chunk c.requires.had c.requires.stays) in
     record {
       is = held_there C law key b h F offset text held c.requires.some c.requires.fits file.one_chunk m
-          (chunks_loaded C key b h F chunk_key (Some m) held file.derived c.requires.had file.one_chunk (c.in-Ok.ensures.loaded b told));
+          (chunks_loaded C key b h F chunk_key (Some m) held file.derived c.requires.had file.one_chunk (c.in_default.ensures.loaded b told));
       asks = w.traffic;
       strays = c.put.ensures.strays ∙ c.load.ensures.strays b told w.long;
     })
     (λ F b told held.
-    c.in-Ok-put.ensures.laid b (c.load.ensures.kept.bytes ∙ told)
+    c.in-Ok.ensures.laid b (c.load.ensures.kept.bytes ∙ told)
     (subst (λ (k : List ℕ). IsFile C k b between.header) (sym keys) (subst (IsFile C key b) (sym headers) held.is_file))
     ∙ ap (λ (k : List ℕ). Some (laid C k (with_size between.header (max between.header.file_size (offset + length text))) nonce
     (message (max between.header.file_size (offset + length text)) offset text (take between.header.file_size (drop C.nonce_len between.buf.items))))) keys
@@ -123,13 +123,13 @@ returns-in-Err-put-clause-stepped g c =
     moved_less old new _ _ _ _ _ _ _ _ (moved_then old mid new _ _ _ _ _ _ _ _ c.load.ensures.moved put_moved) (omega arith) (omega arith) (omega arith) (omega arith) in
     stepped_cut C law key h old new offset text m (C.nonce_len + h.file_size + 16) c.requires.some c.requires.fits file.one_chunk moved
     c.put.new.file.header c.kind-in-Err-put.result
-    (caused_later c.kind-in-Err-put.result old mid new c.in-Ok.ensures.quiet (subst (λ (k : ErrorKind). Caused k mid new) (sym c.kind-in-Err-put.ensures) c.in-Err-put.ensures.failed))
+    (caused_later c.kind-in-Err-put.result old mid new c.in_default.ensures.quiet (subst (λ (k : ErrorKind). Caused k mid new) (sym c.kind-in-Err-put.ensures) c.in-Err-put.ensures.failed))
     (subst (λ (o : Option (List ℕ)). TakesAtMost o C.nonce_len new.left) c.load.ensures.kept.left c.in-Err-put.ensures.kept_left)
     (λ F b told held.
     let w = within_file C key b h F (Write offset text) held c.requires.had file.one_chunk (held_needs C law key b h F offset text held c.requires.some c.requires.fits file.one_chunk c.requires.had c.requires.stays) in
     record {
       is = held_there C law key b h F offset text held c.requires.some c.requires.fits file.one_chunk m
-          (chunks_loaded C key b h F chunk_key (Some m) held file.derived c.requires.had file.one_chunk (c.in-Ok.ensures.loaded b told));
+          (chunks_loaded C key b h F chunk_key (Some m) held file.derived c.requires.had file.one_chunk (c.in_default.ensures.loaded b told));
       asks = w.traffic;
       strays = c.put.ensures.strays ∙ c.load.ensures.strays b told w.long;
     })
