@@ -37,8 +37,11 @@ fn in_pieces(rt: HostRuntime) -> Result<(), Fail> {
 fn as_a_stream(rt: HostRuntime) {
     let (key, nonce) = ([7; 32], [9; 32]);
     let cipher = Aegis256X2::<16>::new(&key, &nonce);
-    let mut keystream = [0; 5];
+    // The keystream is the cipher text of zeros without associated data.
+    let (mut keystream, mut zeros) = ([1; 5], [0; 5]);
     cipher.stream(&mut keystream);
+    let _tag = cipher.encrypt_in_place(&mut zeros, b"");
+    assert!(rt; keystream == zeros);
     let mut message = *b"hello";
     cipher.stream_xor_in_place(&mut message);
     assert!(rt; message != *b"hello");

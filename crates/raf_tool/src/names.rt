@@ -9,7 +9,7 @@ use aegis::raf::{
     session,
 };
 use aegis::{aegis128l, aegis128x2, aegis128x4, aegis256, aegis256x2, aegis256x4};
-use std::alloc::Global;
+use std::alloc::{AllocError, Global};
 use std::process::Abort;
 use std::test::Fail;
 
@@ -20,14 +20,19 @@ fn each_call_of_a_cipher(rt: HostRuntime) -> Result<(), Fail> {
     let alloc = rt.alloc();
     let cipher = aegis128l::Aegis128L::<16>::new(&[1; 16], &[2; 16]);
     let (text, tag) = cipher.encrypt(alloc, &MESSAGE, b"ad")?;
+    let refused = cipher.decrypt(alloc, &text, &tag, b"other");
+    assert!(rt; matches!(refused, Err(aegis::Error::InvalidTag)));
     let mut mc = MESSAGE;
     assert!(rt; cipher.encrypt_in_place(&mut mc, b"ad") == tag);
     assert!(rt; mc.as_slice() == text.as_slice());
     assert!(rt; cipher.decrypt(alloc, &text, &tag, b"ad")?.as_slice() == MESSAGE.as_slice());
     assert!(rt; cipher.decrypt_in_place(&mut mc, &tag, b"ad") == Ok(()));
     assert!(rt; mc == MESSAGE);
-    let mut stream = [0; 13];
+    // The keystream is the cipher text of zeros without associated data.
+    let (mut stream, mut zeros) = ([1; 13], [0; 13]);
     cipher.stream(&mut stream);
+    let _tag = cipher.encrypt_in_place(&mut zeros, &[]);
+    assert!(rt; stream == zeros);
     cipher.stream_xor_in_place(&mut mc);
     assert!(rt; cipher.stream_xor(alloc, &MESSAGE)?.as_slice() == mc.as_slice());
     cipher.stream_xor_in_place(&mut mc);
@@ -101,7 +106,10 @@ fn sealed_and_opened<A: KeyInit + AeadInOut + Drop>(
 ) {
     let aead = A::new(key);
     let (mut text, mut opened) = ([0; 13], [0; 13]);
-    match aead.encrypt_inout_detached(nonce, b"ad", &MESSAGE, &mut text) {
+    let sealed: Result<A::Tag, aead::AeadError> = aead.encrypt_inout_detached(
+        nonce, b"ad", &MESSAGE, &mut text,
+    );
+    match sealed {
         Ok(tag) => {
             let answer = aead.decrypt_inout_detached(nonce, b"ad", &text, &mut opened, &tag);
             assert!(rt; answer.is_ok());
@@ -127,26 +135,8 @@ fn each_adapter(rt: HostRuntime) {
     );
 }
 
-// A session over these parts, generic in each of them as the crate's own bounds are.
-fn served<A: Algorithm, I: RafIo, R: RafRng>(
-    alloc: Global,
-    rng: R,
-    io: I,
-    key: &A::Key,
-    commands: &[Command],
-) -> SessionEnd<I, R, NoMerkle> {
-    session(
-        alloc,
-        RafBuilder::<A, R, NoMerkle>::with_rng(rng),
-        io,
-        key,
-        commands,
-    )
-}
-
-#[test]
-fn each_name_of_the_file(rt: HostRuntime) -> Result<(), Fail> {
-    let alloc = rt.alloc();
+// An empty file with chunks of 16 bytes.
+fn empty_file(alloc: Global) -> Result<MemIo, AllocError> {
     let fields = Header {
         version: 1,
         algorithm: 1,
@@ -156,7 +146,23 @@ fn each_name_of_the_file(rt: HostRuntime) -> Result<(), Fail> {
     };
     let mut header = [0; 96];
     write_header::<Aegis128L>(&fields, &[3; 16], &mut header);
-    let io = MemIo::new(alloc, header.to_vec(alloc)?, Vec::new(alloc));
+    Ok(MemIo::new(alloc, header.to_vec(alloc)?, Vec::new(alloc)))
+}
+
+// A session over these parts, generic in each of them as the crate's own bounds are.
+fn served<A: Algorithm, I: RafIo, R: RafRng>(
+    alloc: Global,
+    builder: RafBuilder<A, R, NoMerkle>,
+    io: I,
+    key: &A::Key,
+    commands: &[Command],
+) -> SessionEnd<I, R, NoMerkle> {
+    session(alloc, builder, io, key, commands)
+}
+
+#[test]
+fn each_name_of_the_file(rt: HostRuntime) -> Result<(), Fail> {
+    let alloc = rt.alloc();
     let rng = VecRng::new(Vec::from_elem(alloc, 9, 16)?);
     let commands = vec![in alloc;
         Command::Write {
@@ -165,7 +171,8 @@ fn each_name_of_the_file(rt: HostRuntime) -> Result<(), Fail> {
         },
         Command::Commitment,
     ]?;
-    let end = served::<Aegis128L, MemIo, VecRng>(alloc, rng, io, &[3; 16], &commands);
+    let builder = RafBuilder::<Aegis128L, VecRng, NoMerkle>::with_rng(rng);
+    let end = served(alloc, builder, empty_file(alloc)?, &[3; 16], &commands);
     let replies: Replies = end.outcome?;
     assert!(rt; matches!(replies.get(0), Some(Reply::Wrote(13))));
     assert!(rt;
@@ -178,5 +185,16 @@ fn each_name_of_the_file(rt: HostRuntime) -> Result<(), Fail> {
     let mut hasher = NoMerkle::new();
     let hashed: Result<(), HashFault> = hasher.hash_leaf(&mut [0; 8], &MESSAGE, 0);
     assert!(rt; hashed.is_ok());
+    Ok(())
+}
+
+#[test]
+fn each_name_of_a_refusal(rt: HostRuntime) -> Result<(), Fail> {
+    let alloc = rt.alloc();
+    let rng = VecRng::new(Vec::new(alloc));
+    let builder = RafBuilder::<Aegis128L, VecRng, NoMerkle>::new(rng);
+    let end = served(alloc, builder, empty_file(alloc)?, &[4; 16], &[]);
+    let refused: Result<Replies, aegis::raf::Error> = end.outcome;
+    assert!(rt; matches!(refused, Err(aegis::raf::Error::AuthenticationFailed)));
     Ok(())
 }

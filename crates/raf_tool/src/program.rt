@@ -53,7 +53,9 @@ impl Words {
 /// How a run ended: its status, and the disk that it was handed, as it came.
 #[derive(Drop)]
 pub struct Ran<I> {
+    /// The exit status, 0 to 7, as [`run`] lists them.
     pub status: u8,
+    /// The disk that was handed in, if any.
     pub disk: Option<I>,
 }
 

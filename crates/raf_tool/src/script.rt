@@ -58,6 +58,7 @@ pub struct Script {
     pub random: Data,
     /// The bytes that the storage holds at first.
     pub storage: Data,
+    /// The commands in order.
     pub commands: Commands,
 }
 
@@ -66,6 +67,7 @@ pub struct Script {
 pub enum ScriptError {
     /// The first wrong line, counted from 1.
     Line(u64),
+    /// No memory was found for the content.
     OutOfMemory,
 }
 

@@ -6,6 +6,7 @@ use crate::streams::{Failed, Source};
 use aegis::raf::MemIo;
 use aegis::raf::format::{Aegis128L, Header, write_header};
 use std::alloc::{AllocError, Global};
+use std::process::Abort;
 use std::test::Fail;
 
 const KEY: [u8; 16] = [0, 1, 2, 3, 4, 5, 6, 7, 8, 9, 10, 11, 12, 13, 14, 15];
@@ -17,6 +18,10 @@ const HEAD: &str =
 /// The storage of an empty file of chunk size 16 and zero id under the key, by an independent program.
 const EMPTY: &str =
     "5345414c5241463101010000100000000000000000000000000000000000000000000000000000000000000000000000000000000000000000000000000000009fe56d23cdb860f83f14c8cd69efa5e50b15a92481f0c7e752cf7815ce074f49";
+
+/// The same, but for the last byte of the header's tag.
+const CHANGED: &str =
+    "5345414c5241463101010000100000000000000000000000000000000000000000000000000000000000000000000000000000000000000000000000000000009fe56d23cdb860f83f14c8cd69efa5e50b15a92481f0c7e752cf7815ce074f48";
 
 /// The storage after `hello` was written to it under a nonce of zeros, by the same program.
 const HELLO: &str =
@@ -39,9 +44,105 @@ fn joined(alloc: Global, pieces: &[&str]) -> Result<Vec<u8>, AllocError> {
     Ok(text)
 }
 
+// A run: what its script has after the fourth line, its replies, the storage afterwards, and its status.
+struct Case {
+    storage: &'static str,
+    commands: &'static str,
+    replies: &'static str,
+    after: &'static str,
+    status: u8,
+}
+
+const GREETING: Case = Case {
+    storage: EMPTY,
+    commands: "size\nwrite 0 68656c6c6f\nread 0 16\nsize\n",
+    replies: "size 0\nwrote 5\nbytes 68656c6c6f\nsize 5\n",
+    after: HELLO,
+    status: 0,
+};
+
+const CASES: [Case; 6] = [
+    GREETING,
+    // upper case hex is read
+    Case {
+        storage: EMPTY,
+        commands: "write 0 68656C6C6F\n",
+        replies: "wrote 5\n",
+        after: HELLO,
+        status: 0,
+    },
+    // a write past the chunk is refused, one of no bytes isn't
+    Case {
+        storage: EMPTY,
+        commands: "write 12 0102030405\nwrite 18446744073709551615 -\nsize\n",
+        replies: "refused unbuilt\nwrote 0\nsize 0\n",
+        after: EMPTY,
+        status: 0,
+    },
+    Case {
+        storage: CHANGED,
+        commands: "size\n",
+        replies: "error authentication\n",
+        after: CHANGED,
+        status: 3,
+    },
+    Case {
+        storage: "-",
+        commands: "size\n",
+        replies: "error unbuilt\n",
+        after: "-",
+        status: 3,
+    },
+    // the random source gives no second nonce
+    Case {
+        storage: EMPTY,
+        commands: "write 0 68656c6c6f\nwrite 0 aa\nsize\n",
+        replies: "wrote 5\nfault rng\n",
+        after: HELLO,
+        status: 4,
+    },
+];
+
+fn script_of(alloc: Global, case: &Case) -> Result<Vec<u8>, AllocError> {
+    joined(
+        alloc,
+        &[HEAD, "storage ", case.storage, "\n", case.commands],
+    )
+}
+
+fn text_of(alloc: Global, case: &Case) -> Result<Vec<u8>, AllocError> {
+    joined(alloc, &[case.replies, "storage ", case.after, "\n"])
+}
+
+// The status of a run over this source.
+fn status_of<S: Source>(
+    alloc: Global,
+    source: &mut S,
+    sink: &mut VecSink,
+) -> Result<u8, AllocError> {
+    let words = words(alloc, &["script"])?;
+    Ok(run(alloc, &words, source, sink, None::<MemIo>).status)
+}
+
+// The script has this text and this status.
+fn gives(
+    rt: &impl Abort,
+    alloc: Global,
+    script: Vec<u8>,
+    text: &[u8],
+    status: u8,
+    name: &str,
+) -> Result<(), Fail> {
+    let mut source = VecSource::new(script, Vec::new(alloc));
+    let mut sink = VecSink::new(alloc, Vec::new(alloc));
+    let ended = status_of(alloc, &mut source, &mut sink)?;
+    assert_eq!(rt; sink.written(), text, "after {name}");
+    assert_eq!(rt; ended, status, "after {name}");
+    Ok(())
+}
+
 #[test]
-fn scripts_are_answered(rt: HostRuntime) -> Result<(), Fail> {
-    let alloc = rt.alloc();
+fn an_empty_file_is_the_independent_programs(rt: HostRuntime) -> Result<(), Fail> {
     let mut header = [0; 96];
     let fields = Header {
         version: 1,
@@ -51,136 +152,67 @@ fn scripts_are_answered(rt: HostRuntime) -> Result<(), Fail> {
         id: [0; 32],
     };
     write_header::<Aegis128L>(&fields, &KEY, &mut header);
-    assert_eq!(rt; hex::encode(alloc, header.as_slice())?.as_str(), EMPTY);
-    let changed = &EMPTY[..190];
-    for (pieces, want, status) in [
-        (
-            [
-                HEAD,
-                "storage ",
-                EMPTY,
-                "\nsize\nwrite 0 68656c6c6f\nread 0 16\nsize\n",
-            ],
-            [
-                "size 0\nwrote 5\nbytes 68656c6c6f\nsize 5\nstorage ",
-                HELLO,
-                "\n",
-            ],
-            0,
-        ),
-        // upper case hex is read
-        (
-            [HEAD, "storage ", EMPTY, "\nwrite 0 68656C6C6F\n"],
-            ["wrote 5\nstorage ", HELLO, "\n"],
-            0,
-        ),
-        // a write past the chunk is refused, one of no bytes isn't
-        (
-            [
-                HEAD,
-                "storage ",
-                EMPTY,
-                "\nwrite 12 0102030405\nwrite 18446744073709551615 -\nsize\n",
-            ],
-            ["refused unbuilt\nwrote 0\nsize 0\nstorage ", EMPTY, "\n"],
-            0,
-        ),
-        // the last byte of the header's tag is changed
-        (
-            [HEAD, "storage ", changed, "48\nsize\n"],
-            ["error authentication\nstorage ", changed, "48\n"],
-            3,
-        ),
-        (
-            [HEAD, "storage -\n", "size\n", ""],
-            ["error unbuilt\n", "storage -", "\n"],
-            3,
-        ),
-        // the random source gives no second nonce
-        (
-            [
-                HEAD,
-                "storage ",
-                EMPTY,
-                "\nwrite 0 68656c6c6f\nwrite 0 aa\nsize\n",
-            ],
-            ["wrote 5\nfault rng\nstorage ", HELLO, "\n"],
-            4,
-        ),
-    ] {
-        let text = joined(alloc, &pieces)?;
-        let expected = joined(alloc, &want)?;
-        let mut source = VecSource::new(text, Vec::new(alloc));
-        let mut sink = VecSink::new(alloc, Vec::new(alloc));
-        let ran = run(
-            alloc,
-            &words(alloc, &["script"])?,
-            &mut source,
-            &mut sink,
-            None::<MemIo>,
-        );
-        assert_eq!(rt; sink.written(), expected.as_slice(), "after {}", pieces[3]);
-        assert_eq!(rt; ran.status, status, "after {}", pieces[3]);
-    }
+    assert_eq!(rt; hex::encode(rt.alloc(), header.as_slice())?.as_str(), EMPTY);
     Ok(())
 }
 
 #[test]
+fn scripts_are_answered(rt: HostRuntime) -> Result<(), Fail> {
+    let alloc = rt.alloc();
+    for case in &CASES {
+        let (script, text) = (script_of(alloc, case)?, text_of(alloc, case)?);
+        gives(&rt, alloc, script, &text, case.status, case.commands)?;
+    }
+    Ok(())
+}
+
+const SETTINGS: &str = "key 000102030405060708090a0b0c0d0e0f\nrandom -\nmerkle none\nstorage -\n";
+
+// Texts that are no script, each in two parts.
+const WRONG: [(&str, &str); 23] = [
+    ("", ""),
+    // no LF at the end of line 1, 5 or 6
+    ("alg aegis128l", ""),
+    (HEAD, "storage -"),
+    (HEAD, "storage -\nsize"),
+    // a wrong or missing setting
+    ("alg aegis128\n", SETTINGS),
+    ("alg  aegis128l\n", SETTINGS),
+    (
+        "alg aegis128l\nkey 0001\n",
+        "random -\nmerkle none\nstorage -\n",
+    ),
+    (
+        "alg aegis128l\nkey 000102030405060708090a0b0c0d0e0f\nseed -\n",
+        "merkle none\nstorage -\n",
+    ),
+    (
+        "alg aegis128l\nkey 000102030405060708090a0b0c0d0e0f\nrandom -\n",
+        "merkle sha256 4\nstorage -\n",
+    ),
+    (HEAD, "create 16\n"),
+    (HEAD, "storage 010\n"),
+    (HEAD, "storage 0g\n"),
+    // a wrong command
+    (HEAD, "storage -\n\n"),
+    (HEAD, "storage -\n size\n"),
+    (HEAD, "storage -\nsize \n"),
+    (HEAD, "storage -\nsize 1\n"),
+    (HEAD, "storage -\nread 0\n"),
+    (HEAD, "storage -\nread 007 1\n"),
+    (HEAD, "storage -\nread +7 1\n"),
+    (HEAD, "storage -\nread 0 18446744073709551616\n"),
+    (HEAD, "storage -\nread 0 1 2\n"),
+    (HEAD, "storage -\nwrite 0 \n"),
+    (HEAD, "storage -\nsize\nsync\nsize\n"),
+];
+
+#[test]
 fn wrong_scripts_are_refused(rt: HostRuntime) -> Result<(), Fail> {
     let alloc = rt.alloc();
-    let settings = "key 000102030405060708090a0b0c0d0e0f\nrandom -\nmerkle none\nstorage -\n";
-    for (front, rest) in [
-        ("", ""),
-        // no LF at the end of line 1, 5 or 6
-        ("alg aegis128l", ""),
-        (HEAD, "storage -"),
-        (HEAD, "storage -\nsize"),
-        // a wrong or missing setting
-        ("alg aegis128\n", settings),
-        ("alg  aegis128l\n", settings),
-        (
-            "alg aegis128l\nkey 0001\n",
-            "random -\nmerkle none\nstorage -\n",
-        ),
-        (
-            "alg aegis128l\nkey 000102030405060708090a0b0c0d0e0f\nseed -\n",
-            "merkle none\nstorage -\n",
-        ),
-        (
-            "alg aegis128l\nkey 000102030405060708090a0b0c0d0e0f\nrandom -\n",
-            "merkle sha256 4\nstorage -\n",
-        ),
-        (HEAD, "create 16\n"),
-        (HEAD, "storage 010\n"),
-        (HEAD, "storage 0g\n"),
-        // a wrong command
-        (HEAD, "storage -\n\n"),
-        (HEAD, "storage -\n size\n"),
-        (HEAD, "storage -\nsize \n"),
-        (HEAD, "storage -\nsize 1\n"),
-        (HEAD, "storage -\nread 0\n"),
-        (HEAD, "storage -\nread 007 1\n"),
-        (HEAD, "storage -\nread +7 1\n"),
-        (HEAD, "storage -\nread 0 18446744073709551616\n"),
-        (HEAD, "storage -\nread 0 1 2\n"),
-        (HEAD, "storage -\nwrite 0 \n"),
-        (HEAD, "storage -\nsize\nsync\nsize\n"),
-    ] {
-        let mut source = VecSource::new(joined(alloc, &[front, rest])?, Vec::new(alloc));
-        let mut sink = VecSink::new(alloc, Vec::new(alloc));
-        let ran = run(
-            alloc,
-            &words(alloc, &["script"])?,
-            &mut source,
-            &mut sink,
-            None::<MemIo>,
-        );
-        assert_eq!(rt;
-            sink.written(),
-            b"script unbuilt\n".as_slice(),
-            "after {rest}"
-        );
-        assert_eq!(rt; ran.status, 2, "after {rest}");
+    for (front, rest) in &WRONG {
+        let script = joined(alloc, &[front, rest])?;
+        gives(&rt, alloc, script, b"script unbuilt\n", 2, rest)?;
     }
     Ok(())
 }
@@ -207,47 +239,17 @@ fn words_that_are_no_form_give_the_usage(rt: HostRuntime) -> Result<(), Fail> {
     Ok(())
 }
 
-// The stored run's script.
-fn greeting(alloc: Global) -> Result<Vec<u8>, AllocError> {
-    joined(
-        alloc,
-        &[
-            HEAD,
-            "storage ",
-            EMPTY,
-            "\nsize\nwrite 0 68656c6c6f\nread 0 16\nsize\n",
-        ],
-    )
-}
-
 #[test]
 fn a_sink_that_fails_has_a_front_of_the_text(rt: HostRuntime) -> Result<(), Fail> {
     let alloc = rt.alloc();
-    let want = joined(
-        alloc,
-        &[
-            "size 0\nwrote 5\nbytes 68656c6c6f\nsize 5\nstorage ",
-            HELLO,
-            "\n",
-        ],
-    )?;
+    let want = text_of(alloc, &GREETING)?;
     // Two lines with bytes take three calls each, the other three one each.
     for number in 0..10 {
-        let mut source = VecSource::new(greeting(alloc)?, Vec::new(alloc));
+        let mut source = VecSource::new(script_of(alloc, &GREETING)?, Vec::new(alloc));
         let mut sink = VecSink::new(alloc, vec![in alloc; number]?);
-        let ran = run(
-            alloc,
-            &words(alloc, &["script"])?,
-            &mut source,
-            &mut sink,
-            None::<MemIo>,
-        );
+        let status = status_of(alloc, &mut source, &mut sink)?;
         let written = sink.written();
-        assert_eq!(rt;
-            ran.status,
-            if number < 9 { 6 } else { 0 },
-            "at call {number}"
-        );
+        assert_eq!(rt; status, if number < 9 { 6 } else { 0 }, "at call {number}");
         assert!(rt; want.starts_with(written), "at call {number}");
         assert_eq!(rt;
             written.len() == want.len(),
@@ -280,48 +282,29 @@ impl Source for OneByte {
 #[test]
 fn pieces_of_one_byte_make_no_difference(rt: HostRuntime) -> Result<(), Fail> {
     let alloc = rt.alloc();
-    let want = joined(
-        alloc,
-        &[
-            "size 0\nwrote 5\nbytes 68656c6c6f\nsize 5\nstorage ",
-            HELLO,
-            "\n",
-        ],
-    )?;
+    let want = text_of(alloc, &GREETING)?;
     let mut source = OneByte {
-        inner: VecSource::new(greeting(alloc)?, Vec::new(alloc)),
+        inner: VecSource::new(script_of(alloc, &GREETING)?, Vec::new(alloc)),
     };
     let mut sink = VecSink::new(alloc, Vec::new(alloc));
-    let ran = run(
-        alloc,
-        &words(alloc, &["script"])?,
-        &mut source,
-        &mut sink,
-        None::<MemIo>,
-    );
+    let status = status_of(alloc, &mut source, &mut sink)?;
     assert_eq!(rt; sink.written(), want.as_slice());
-    assert_eq!(rt; ran.status, 0);
+    assert_eq!(rt; status, 0);
     Ok(())
 }
 
 #[test]
 fn a_source_that_fails_gives_nothing(rt: HostRuntime) -> Result<(), Fail> {
     let alloc = rt.alloc();
-    let length = greeting(alloc)?.len() as u64;
+    let length = script_of(alloc, &GREETING)?.len() as u64;
     // The first call, the second, and the last, which finds the end.
     for number in [0, 1, length] {
         let mut source = OneByte {
-            inner: VecSource::new(greeting(alloc)?, vec![in alloc; number]?),
+            inner: VecSource::new(script_of(alloc, &GREETING)?, vec![in alloc; number]?),
         };
         let mut sink = VecSink::new(alloc, Vec::new(alloc));
-        let ran = run(
-            alloc,
-            &words(alloc, &["script"])?,
-            &mut source,
-            &mut sink,
-            None::<MemIo>,
-        );
-        assert_eq!(rt; ran.status, 5, "at call {number}");
+        let status = status_of(alloc, &mut source, &mut sink)?;
+        assert_eq!(rt; status, 5, "at call {number}");
         assert_eq!(rt; sink.written().len(), 0, "at call {number}");
     }
     Ok(())

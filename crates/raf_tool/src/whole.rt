@@ -18,6 +18,7 @@ pub enum ReadError {
     Failed,
     /// The source has more bytes than were asked for.
     TooLong,
+    /// No memory was found for the bytes.
     OutOfMemory,
 }
 

@@ -6,9 +6,13 @@ ghost use Rattle.raf_tool.specs.Reading.{AreWords};
 /// The words of a line, up to three. No line of a script has more.
 #[derive(Clone, Copy)]
 pub enum LineWords<'a> {
+    /// One word, the whole line.
     One(&'a [u8]),
+    /// Two words.
     Two(&'a [u8], &'a [u8]),
+    /// Three words.
     Three(&'a [u8], &'a [u8], &'a [u8]),
+    /// Four words or more.
     More,
 }
 
