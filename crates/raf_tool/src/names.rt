@@ -2,11 +2,9 @@
 
 use aegis::compat::rustcrypto_traits_06 as aead;
 use aegis::compat::rustcrypto_traits_06::{AeadInOut, KeyInit};
-use aegis::raf::format::{Aegis128L, Algorithm, Header, write_header};
-use aegis::raf::tree::{HashFault, MerkleHasher, NoMerkle};
 use aegis::raf::{
-    Command, Data, ErrorKind, MemIo, RafBuilder, RafIo, RafRng, Replies, Reply, SessionEnd, VecRng,
-    session,
+    Aegis128L, Algorithm, Command, Data, ErrorKind, HashFault, Header, MemIo, MerkleHasher,
+    NoMerkle, RafBuilder, RafIo, RafRng, Replies, Reply, SessionEnd, VecRng, session, write_header,
 };
 use aegis::{aegis128l, aegis128x2, aegis128x4, aegis256, aegis256x2, aegis256x4};
 use std::alloc::{AllocError, Global};

@@ -12,10 +12,9 @@ use crate::script::{Script, ScriptError};
 use crate::settings::parse;
 use crate::streams::{Failed, Sink, Source};
 use crate::whole::{ReadError, read_whole};
-use aegis::raf::format::{Aegis128L, Algorithm};
-use aegis::raf::tree::NoMerkle;
 use aegis::raf::{
-    Data, Error, ErrorKind, MemIo, RafBuilder, RafIo, Replies, Reply, SessionEnd, VecRng, session,
+    Aegis128L, Algorithm, Data, Error, ErrorKind, MemIo, NoMerkle, RafBuilder, RafIo, Replies,
+    Reply, SessionEnd, VecRng, session,
 };
 use std::alloc::Global;
 use std::marker::Model;

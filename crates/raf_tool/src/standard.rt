@@ -8,7 +8,8 @@ ghost use Rattle.raf_tool.specs.Streams.{TellsAsBefore, TakesSome};
 use crate::streams::{Failed, Sink, Source};
 use std::io::{Read, Write};
 
-/// A reader of std as a source. What it reads is the host's affair; what is proved is the trait's contract.
+/// A reader of std as a source. What it reads is the host's affair; what is proved is the trait's contract, and that it hands on what
+/// the reader gives.
 #[derive(Drop)]
 pub struct ReadSource<T> {
     inner: T,
@@ -35,7 +36,7 @@ impl<T: Read> Source for ReadSource<T> {
         ensures bytes { ReadConsumes None None result buf.new }
         ensures tells { TellsAsBefore None None }
         ensures cause { HasCause self.old.faults self.new.faults result }
-        // Of a reader whose bytes are known, it gives just those.
+        // Where the reader's bytes are known, it gives just those.
         ensures reader { ReadConsumes (T.remaining self.old.inner) (T.remaining self.new.inner) result buf.new }
     {
         match self.inner.read(buf) {
@@ -48,7 +49,8 @@ impl<T: Read> Source for ReadSource<T> {
     }
 }
 
-/// A writer of std as a sink. What becomes of the bytes is the host's affair; what is proved is the trait's contract.
+/// A writer of std as a sink. What becomes of the bytes is the host's affair; what is proved is the trait's contract, and that the
+/// writer is given them.
 #[derive(Drop)]
 pub struct WriteSink<T> {
     inner: T,
@@ -77,7 +79,7 @@ impl<T: Write> Sink for WriteSink<T> {
         ensures bytes { WriteAppends None None result buf.now }
         ensures tells { TellsAsBefore None None }
         ensures cause { HasCause self.old.faults self.new.faults result }
-        // A writer whose bytes are known has them.
+        // Where the writer's bytes are known, it has them.
         ensures writer { WriteAppends (T.contents self.old.inner) (T.contents self.new.inner) result buf.now }
     {
         match self.inner.write(buf) {

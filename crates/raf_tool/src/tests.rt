@@ -3,8 +3,7 @@
 use crate::memory::{VecSink, VecSource};
 use crate::program::{Words, run};
 use crate::streams::{Failed, Source};
-use aegis::raf::MemIo;
-use aegis::raf::format::{Aegis128L, Header, write_header};
+use aegis::raf::{Aegis128L, Header, MemIo, write_header};
 use std::alloc::{AllocError, Global};
 use std::process::Abort;
 use std::test::Fail;
