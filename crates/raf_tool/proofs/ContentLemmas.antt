@@ -6,7 +6,7 @@ use Rattle.aegis_core.specs.declared.variant.Variant.TheVariants.{Aegis128L}
 use Rattle.raf_tool.specs.Run.{IsUnbuilt}
 use Rattle.raf_tool.specs.Lines.{Gives}
 use Rattle.raf_tool.specs.Reading.{script}
-use Rattle.raf_tool.specs.Script.{Spells, Reads}
+use Rattle.raf_tool.specs.Script.{Reads}
 use Rattle.raf_tool.specs.declared.script.Script.{Script}
 use Rattle.raf_tool.specs.declared.script.ScriptError.{ScriptError}
 use Rattle.raf_tool.specs.declared.script.ScriptError.TheVariants as errors

@@ -1,8 +1,8 @@
 -- Which words are the decimal digits of a number.
-use Rattle.std.proofs.Common.{◌≡◌, ℕ, suc, zero, ◌+◌, ◌^◌, ◌<◌, ◌&&◌, Bool, true, false, List, [], ◌∷◌, length, get_or, Option, Some, None, Result, Ok, Err, refl, sym, ap, ◌∙◌, arith, eqb, ltb, lit<, ◌≤◌}
+use Rattle.std.proofs.Common.{◌≡◌, ℕ, suc, zero, ◌^◌, ◌<◌, ◌&&◌, Bool, true, false, List, get_or, Some, None, Result, Ok, Err, refl, sym, ap, ◌∙◌, arith, lit<, ◌≤◌}
 use Rattle.std.specs.Prelude.{decimal, bytes_eq, IsUtf8, if◌then◌else◌, nat_lt}
 use Rattle.std.specs.Result.{result_ok}
-use Rattle.std.specs.Str.Parse.{digits_value, AllDigits, IsNumeral, ParsesUnsigned}
+use Rattle.std.specs.Str.Parse.{digits_value, AllDigits, ParsesUnsigned}
 use Rattle.std.proofs.lemmas.Bool.{ltb-true, lt-ltb}
 use Rattle.std.proofs.lemmas.Fmt.{decimal_is_IsNumeral, decimal_digit, first_decimal, IsAscii-decimal, decimal-digits_value}
 use Rattle.std.proofs.lemmas.Str.{IsUtf8-from_ascii}

@@ -1,5 +1,5 @@
 -- A text cut at its first byte c, as its parts, its words and its lines show it.
-use Rattle.std.proofs.Common.{◌≡◌, ℕ, suc, zero, ◌+◌, ◌-◌, ◌<◌, ◌≤◌, Bool, true, false, List, [], ◌∷◌, length, get_or, take, drop, Option, Some, None, Result, Ok, Err, refl, sym, ap, ◌∙◌, arith, eqb, eq-eqb, add-one}
+use Rattle.std.proofs.Common.{◌≡◌, ℕ, suc, zero, ◌+◌, ◌-◌, ◌<◌, Bool, true, false, List, [], ◌∷◌, length, get_or, take, drop, None, Ok, Err, refl, ap, ◌∙◌, arith, eqb, eq-eqb, add-one}
 use Rattle.std.specs.Prelude.{nat_eq, if◌then◌else◌}
 use Rattle.std.specs.List.{onto_first}
 use Rattle.std.proofs.lemmas.List.Splits.{slice_split-cons_yes, slice_split-cons_no, length-slice_split}
@@ -7,7 +7,7 @@ use Rattle.std.proofs.lemmas.Bool.{ne_eqb}
 use Rattle.std.proofs.lemmas.List.{length-drop}
 use Rattle.std.proofs.Math.Seq.{take-length}
 use Rattle.raf_tool.specs.Words.{parts}
-use Rattle.raf_tool.specs.Lines.{lines, lines_of_parts, first}
+use Rattle.raf_tool.specs.Lines.{lines, first}
 
 found_suc : (c : ℕ) (xs : List ℕ) (i : ℕ) → i < length xs → ((k : ℕ) → k < i → get_or xs k 0 ≡ c → ⊥) → get_or xs i 0 ≡ c → parts c xs ≡ take i xs ∷ parts c (drop (suc i) xs)
 found_suc c [] i lt before here = absurd (omega arith)

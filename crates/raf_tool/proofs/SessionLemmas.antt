@@ -1,5 +1,5 @@
 -- A session over a script's content, from what the storage and the random source tell at first.
-use Rattle.std.proofs.Common.{◌≡◌, ℕ, List, [], Option, Some, Result, sym, ap, ◌∙◌, subst}
+use Rattle.std.proofs.Common.{◌≡◌, ℕ, List, [], Some, Result, sym}
 use Rattle.raf.specs.Cipher.{cipher_of}
 use Rattle.raf.specs.Outside.{Outside}
 use Rattle.raf.specs.Session.{Meets}

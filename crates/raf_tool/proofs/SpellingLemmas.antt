@@ -1,8 +1,8 @@
 -- What is spelled is read: a text that spells a content reads as that content.
-use Rattle.std.proofs.Common.{◌≡◌, ℕ, suc, zero, ◌+◌, ◌^◌, ◌<◌, ◌≤◌, Bool, true, false, List, [], ◌∷◌, ◌++◌, length, map, Option, Some, None, Result, Ok, Err, refl, sym, ap, ◌∙◌, append_assoc, arith, eqb, rules}
+use Rattle.std.proofs.Common.{◌≡◌, ℕ, ◌+◌, ◌^◌, ◌<◌, ◌≤◌, Bool, true, false, List, [], ◌∷◌, ◌++◌, length, map, Option, Some, Ok, refl, sym, ap, ◌∙◌, append_assoc, arith, rules}
 use Rattle.std.specs.Prelude.{decimal, bytes_eq, codes, if◌then◌else◌, nat_eq, ◌==◌, ⊤}
-use Rattle.std.specs.List.{flat_map, join_with_byte, All, AllPass, AllZip}
-use Rattle.std.specs.Str.Parse.{digits_value, AllDigits}
+use Rattle.std.specs.List.{join_with_byte, All, AllZip}
+use Rattle.std.specs.Str.Parse.{digits_value}
 use Rattle.std.proofs.lemmas.Bool.{ne_eqb, eq-eqb}
 use Rattle.std.proofs.lemmas.Fmt.{decimal_is_IsNumeral}
 use Rattle.std.proofs.lemmas.Str.Parse.{digit_at}
@@ -17,8 +17,8 @@ use Rattle.aegis_core.specs.declared.variant.Variant.{Variant}
 use Rattle.aegis_core.specs.declared.variant.Variant.TheVariants.{Aegis128L}
 use Rattle.aegis_core.specs.Sealing.{key_len}
 use Rattle.raf_tool.specs.Words.{parts, words, number, hex_bytes, some_bytes}
-use Rattle.raf_tool.specs.Lines.{◌>>=◌, fits, first, lines, lines_of_parts}
-use Rattle.raf_tool.specs.Reading.{plain_command, range_command, command_words, command, commands, argument_words, argument, algorithm_line, key_line, bytes_line, tree_line, script}
+use Rattle.raf_tool.specs.Lines.{fits, lines}
+use Rattle.raf_tool.specs.Reading.{plain_command, range_command, command_words, commands, argument, algorithm_line, key_line, bytes_line, tree_line, script}
 use Rattle.raf_tool.specs.Script.{text_of, SpellsNumber, SpellsBytes, SpellsCommand, Spells}
 use Rattle.raf_tool.specs.declared.script.Script.{Script}
 use Rattle.raf_tool.proofs.NumberLemmas.{number_some}

@@ -1,9 +1,9 @@
 -- One call after another on a source or a sink, and the move of bytes out of a list.
-use Rattle.std.proofs.Common.{◌≡◌, ◌≢◌, ℕ, ◌+◌, ◌-◌, ◌<◌, ◌≤◌, List, [], ◌∷◌, ◌++◌, length, take, drop, refl, sym, ◌∙◌, ap, append_assoc, min, arith, Option, None, Some, rules, subst}
-use Rattle.std.proofs.lemmas.List.{take-append-le, take-append-drop, drop-drop, length-drop, length-take-le, nil_from_length, length-append, append-nil}
+use Rattle.std.proofs.Common.{◌≡◌, ℕ, ◌+◌, ◌-◌, ◌<◌, ◌≤◌, List, [], ◌++◌, length, take, drop, refl, sym, ◌∙◌, ap, append_assoc, min, arith, Option, None, Some, rules, subst}
+use Rattle.std.proofs.lemmas.List.{take-append-le, take-append-drop, drop-drop, length-drop, nil_from_length, length-append, append-nil}
 use Rattle.std.specs.Prelude.{IfSome}
 use Rattle.std.specs.Io.KnownBytes.{Appends, Consumes, IsAtEnd}
-use Rattle.std.proofs.Math.Seq.{take-add, take-length}
+use Rattle.std.proofs.Math.Seq.{take-length}
 
 pub appends_none : (o : Option (List ℕ)) → Appends o o []
 appends_none None = tt

@@ -1,5 +1,5 @@
 -- What a run of the program answers, and when. Words, statuses and texts are this project's own.
-use Rattle.std.specs.Prelude.{◌≡◌, ◌⊎◌, ◌∷◌, [], ◌<◌, ◌≤◌, ◌+◌, ◌-◌, ◌^◌, ◌==◌, ℕ, Bool, true, false, List, length, codes, Option, Some, None, Result, Ok, Err, IfSome, if◌then◌else◌, bytes_eq, slice_get}
+use Rattle.std.specs.Prelude.{◌≡◌, ◌⊎◌, ◌∷◌, [], ◌<◌, ◌≤◌, ◌-◌, ◌^◌, ◌==◌, ℕ, Bool, true, false, List, length, codes, Option, Some, None, Result, Ok, Err, IfSome, if◌then◌else◌, bytes_eq, slice_get}
 use Rattle.std.specs.Io.KnownBytes.{Appends, IsAtEnd}
 use Rattle.raf.specs.Counts.{Rose}
 use Rattle.raf.specs.Kinds.{is_fault, kind_of}

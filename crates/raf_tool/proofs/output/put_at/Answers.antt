@@ -1,4 +1,3 @@
-use Rattle.std.proofs.Common.{length, ◌<◌}
 use Rattle.raf_tool.specs.Text.{reply_line}
 use Rattle.raf_tool.proofs.PutLemmas.{one_line}
 use Rattle.raf_tool.proofs.output.put_at.Goals as goal

@@ -1,4 +1,4 @@
-use Rattle.std.proofs.Common.{arith, length, take, ◌++◌, ℕ}
+use Rattle.std.proofs.Common.{arith, take, ◌++◌, ℕ}
 use Rattle.std.proofs.lemmas.List.{length-append, length-take}
 use Rattle.raf_tool.proofs.StreamLemmas.{consumes_more}
 use Rattle.raf_tool.proofs.whole.read_whole.Goals as goal

@@ -1,4 +1,4 @@
-use Rattle.std.proofs.Common.{arith, length, take, drop, ◌∙◌}
+use Rattle.std.proofs.Common.{arith, take, drop, ◌∙◌}
 use Rattle.std.proofs.Math.Seq.{take-add}
 use Rattle.std.proofs.lemmas.List.{length-drop}
 use Rattle.raf_tool.proofs.StreamLemmas.{appends_more, whole_drop}

@@ -1,6 +1,4 @@
-use Rattle.std.proofs.Common.{arith, length, drop, take, ◌+◌, ◌-◌, ◌≡◌, sym}
-use Rattle.std.proofs.lemmas.List.{length-drop}
-use Rattle.std.proofs.Math.Seq.{take-length}
+use Rattle.std.proofs.Common.{arith, ◌+◌}
 use Rattle.raf_tool.proofs.PartsLemmas.{found_at, none_at, whole_drop}
 use Rattle.raf_tool.proofs.words.cut_at.Goals as goal
 

@@ -1,5 +1,5 @@
 use Rattle.std.proofs.Common.{arith, sym, ◌∙◌, ap, ◌≡◌, length, take, drop, min, ◌-◌}
-use Rattle.std.proofs.lemmas.List.{length-take-le, length-take}
+use Rattle.std.proofs.lemmas.List.{length-take-le}
 use Rattle.raf_tool.proofs.StreamLemmas.{whole_drop, moved, at_end}
 use Rattle.raf_tool.specs.Memory.{Memory}
 use Rattle.raf_tool.proofs.memory.VecSourceSource.read.Goals as goal
