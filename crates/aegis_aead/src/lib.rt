@@ -3,8 +3,6 @@
 
 mod adapter;
 mod round_trip;
-#[cfg(test)]
-mod tests;
 mod traits;
 
 pub use adapter::{

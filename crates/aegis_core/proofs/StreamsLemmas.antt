@@ -1,7 +1,7 @@
 -- What the calls of messages in pieces give, in the words of the ciphers.
 use Rattle.std.proofs.Common.{◌≡◌, ◌+◌, ◌-◌, ◌<◌, ◌≤◌, ◌++◌, ℕ, List, [], length, take, drop, refl, sym, ap, ◌∙◌, arith, length-append, length-drop, subst}
-use Rattle.std.proofs.lemmas.List.{take-append-drop, take_at, drop_at, length-take-le}
-use Rattle.std.proofs.lemmas.Slice.{take-put_mid, take-put_mid_below}
+use Rattle.std.proofs.lemmas.List.{take-append-drop, take_at, drop_at, drop-drop, length-take-le}
+use Rattle.std.proofs.lemmas.Slice.{take-put_mid, take-put_mid_below, drop-put_mid}
 use borrow.Rule.Slice.PartMut.{put_mid}
 use Rattle.aegis_core.specs.Lanes.{State}
 use Rattle.aegis_core.specs.Family.{Family, cipher_text, keyed, sealed_by, mac_by}
@@ -99,6 +99,21 @@ bytes_after b y z bytes n k eb room ly lz =
     let l1 : length b1 ≡ length b = length-put_mid n (n + k - n) b y (omega arith) (ly ∙ sym w) in
     take-put_mid n (n + k - n) b1 z (n + k) (ap (λ (j : ℕ). n + j) (sym lz)) (omega arith)
     ∙ ap (λ (v : List ℕ). v ++ z) (take-put_mid_below n (n + k - n) b y n (omega arith) (omega arith) ∙ sym eb)
+
+-- what stands behind the piece
+pub rest_after : (b y rest : List ℕ) (n k : ℕ) → rest ≡ drop n b → n + k ≤ length b → length y ≡ k
+    → drop (n + k) (put_mid n (n + k - n) b y) ≡ drop k rest
+rest_after b y rest n k er room ly =
+    let w : n + k - n ≡ k = omega arith in
+    drop-put_mid n (n + k - n) b y (n + k) (omega arith) (omega arith) (ly ∙ sym w) ∙ sym (drop-drop k n b) ∙ ap (drop k) (sym er)
+
+-- the same, and the piece decrypted
+pub rest_after_both : (b y z rest : List ℕ) (n k : ℕ) → rest ≡ drop n b → n + k ≤ length b → length y ≡ k → length z ≡ k
+    → drop (n + k) (put_mid n (n + k - n) (put_mid n (n + k - n) b y) z) ≡ drop k rest
+rest_after_both b y z rest n k er room ly lz =
+    let w : n + k - n ≡ k = omega arith in
+    let l1 : length (put_mid n (n + k - n) b y) ≡ length b = length-put_mid n (n + k - n) b y (omega arith) (ly ∙ sym w) in
+    drop-put_mid n (n + k - n) (put_mid n (n + k - n) b y) z (n + k) (omega arith) (omega arith) (lz ∙ sym w) ∙ rest_after b y rest n k er room ly
 
 pub front_len : (bytes b : List ℕ) (n : ℕ) → bytes ≡ take n b → n ≤ length b → length bytes ≡ n
 front_len bytes b n e h = ap length e ∙ length-take-le n b h

@@ -26,6 +26,10 @@ decrypted_total d = total_of d.pieces
 abbrev pub decrypted_bytes : {K S : Type 0} {n t : ℕ} → Decryptor K S n t → List ℕ
 decrypted_bytes d = d.out.bytes
 
+-- the bytes of the destination behind them
+abbrev pub decrypted_rest : {K S : Type 0} {n t : ℕ} → Decryptor K S n t → List ℕ
+decrypted_rest d = d.out.rest
+
 -- how many bytes the destination has
 abbrev pub decrypted_room : {K S : Type 0} {n t : ℕ} → Decryptor K S n t → ℕ
 decrypted_room d = d.out.capacity

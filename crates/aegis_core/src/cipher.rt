@@ -4,7 +4,7 @@ ghost use Rattle.std.specs.Prelude.{◌≡◌, ◌⊎◌, ◌^◌, ◌<◌, [], 
 ghost use Rattle.aes_spec.specs.Bytes.{xor_bytes};
 ghost use Rattle.aegis_core.specs.Sealing.{seal, stream, Unseals};
 ghost use Rattle.aegis_core.specs.Ciphers.{key_of, nonce_of, RefusesText};
-ghost use Rattle.aegis_core.specs.Streams.{Encrypts, Decrypts, encrypted_total, decrypted_total, decrypted_bytes, decrypted_room};
+ghost use Rattle.aegis_core.specs.Streams.{Encrypts, Decrypts, encrypted_total, decrypted_total, decrypted_bytes, decrypted_rest, decrypted_room};
 
 use crate::decryptor::Decryptor;
 use crate::encryptor::Encryptor;
@@ -143,6 +143,7 @@ impl<
         ensures total { decrypted_total result ≡ 0 }
         ensures prefix { decrypted_bytes result ≡ [] }
         ensures room { decrypted_room result ≡ length plaintext.old }
+        ensures rest { decrypted_rest result ≡ plaintext.old }
         ensures holds { Decrypts S.family S.lanes K.variant result (key_of self.now) (nonce_of self.now) associated_data.now [] }
     {
         Decryptor::start(&self.key, &self.nonce, associated_data, plaintext)

@@ -10,7 +10,7 @@ use crate::bytes::{padded_block, xor_into};
 use crate::lane_state::LaneState;
 
 // Absorbs less than a block.
-pub fn absorb_tail<S: LaneState>(state: &mut S, tail: &[u8])
+pub(crate) fn absorb_tail<S: LaneState>(state: &mut S, tail: &[u8])
     requires { length tail.now < (S.family state.old).rate }
     ensures same { S.family state.new ≡ S.family state.old }
     ensures updated { S.lanes state.new ≡ absorbed_tail (S.family state.old) (S.lanes state.old) tail.now }
@@ -52,7 +52,7 @@ fn decrypt_tail<S: LaneState>(state: &mut S, text: &mut [u8])
 }
 
 /// Absorbs `input`, padded with zeros to whole blocks.
-pub fn absorb_all<S: LaneState>(state: &mut S, input: &[u8])
+pub(crate) fn absorb_all<S: LaneState>(state: &mut S, input: &[u8])
     ensures same { S.family state.new ≡ S.family state.old }
     ensures rate { 0 < (S.family state.old).rate }
     ensures updated { S.lanes state.new ≡ absorbed (S.family state.old) (S.lanes state.old) input.now }
@@ -66,7 +66,7 @@ pub fn absorb_all<S: LaneState>(state: &mut S, input: &[u8])
 }
 
 /// Encrypts `mc` in place, padded with zeros to whole blocks and cut to its length.
-pub fn encrypt_all<S: LaneState>(state: &mut S, mc: &mut [u8])
+pub(crate) fn encrypt_all<S: LaneState>(state: &mut S, mc: &mut [u8])
     ensures same { S.family state.new ≡ S.family state.old }
     ensures text { mc.new ≡ cipher_text (S.family state.old) (S.lanes state.old) mc.old }
     ensures updated { S.lanes state.new ≡ absorbed (S.family state.old) (S.lanes state.old) mc.old }
@@ -80,7 +80,7 @@ pub fn encrypt_all<S: LaneState>(state: &mut S, mc: &mut [u8])
 }
 
 /// Decrypts `mc` in place: what it held is the cipher text of what it holds afterwards.
-pub fn decrypt_all<S: LaneState>(state: &mut S, mc: &mut [u8])
+pub(crate) fn decrypt_all<S: LaneState>(state: &mut S, mc: &mut [u8])
     ensures same { S.family state.new ≡ S.family state.old }
     ensures rate { 0 < (S.family state.old).rate }
     ensures text { mc.old ≡ cipher_text (S.family state.old) (S.lanes state.old) mc.new }
@@ -102,7 +102,7 @@ fn clear(out: &mut [u8])
 }
 
 // Whether two tags are one.
-pub fn are_same(a: &[u8], b: &[u8]) -> bool
+pub(crate) fn are_same(a: &[u8], b: &[u8]) -> bool
     ensures yes { OnTrue result (a.now ≡ b.now) }
     ensures no { OnFalse result (a.now ≢ b.now) }
 {
@@ -110,7 +110,7 @@ pub fn are_same(a: &[u8], b: &[u8]) -> bool
 }
 
 /// Seals `mc` in place under the key and nonce of the initial state.
-pub fn seal_lanes<S: LaneState>(state: S, ad: &[u8], mc: &mut [u8], tag: &mut [u8])
+pub(crate) fn seal_lanes<S: LaneState>(state: S, ad: &[u8], mc: &mut [u8], tag: &mut [u8])
     requires tag_len { (length tag.old ≡ 16) ⊎ (length tag.old ≡ 32) }
     requires ad_len { length ad.now < 2 ^ 61 }
     requires mc_len { length mc.old < 2 ^ 61 }
@@ -125,7 +125,7 @@ pub fn seal_lanes<S: LaneState>(state: S, ad: &[u8], mc: &mut [u8], tag: &mut [u
 
 /// Unseals `mc` in place under the key and nonce of the initial state: whether there is a message,
 /// which then stands in `mc`. Else every byte of `mc` is 0xaa.
-pub fn unseal_lanes<S: LaneState>(state: S, ad: &[u8], mc: &mut [u8], tag: &[u8]) -> bool
+pub(crate) fn unseal_lanes<S: LaneState>(state: S, ad: &[u8], mc: &mut [u8], tag: &[u8]) -> bool
     requires tag_len { (length tag.now ≡ 16) ⊎ (length tag.now ≡ 32) }
     requires ad_len { length ad.now < 2 ^ 61 }
     requires mc_len { length mc.old < 2 ^ 61 }
@@ -149,7 +149,7 @@ pub fn unseal_lanes<S: LaneState>(state: S, ad: &[u8], mc: &mut [u8], tag: &[u8]
 }
 
 /// The MAC of a text under the key and nonce of the initial state.
-pub fn mac_lanes<S: LaneState>(state: S, text: &[u8], tag: &mut [u8])
+pub(crate) fn mac_lanes<S: LaneState>(state: S, text: &[u8], tag: &mut [u8])
     requires tag_len { (length tag.old ≡ 16) ⊎ (length tag.old ≡ 32) }
     requires text_len { length text.now < 2 ^ 61 }
     ensures { (key nonce : List ℕ) → S.lanes state ≡ (S.family state).initial key nonce
@@ -161,7 +161,7 @@ pub fn mac_lanes<S: LaneState>(state: S, text: &[u8], tag: &mut [u8])
 }
 
 /// Fills `out` with the keystream under the key and nonce of the initial state.
-pub fn stream_lanes<S: LaneState>(state: S, out: &mut [u8])
+pub(crate) fn stream_lanes<S: LaneState>(state: S, out: &mut [u8])
     ensures { (key nonce : List ℕ) → S.lanes state ≡ (S.family state).initial key nonce
         → out.new ≡ stream_by (S.family state) key nonce (length out.old) }
 {
@@ -189,7 +189,7 @@ fn xor_stream_all<S: LaneState>(state: &mut S, mc: &mut [u8])
 }
 
 /// Adds the keystream to `mc` under the key and nonce of the initial state.
-pub fn xor_stream_lanes<S: LaneState>(state: S, mc: &mut [u8])
+pub(crate) fn xor_stream_lanes<S: LaneState>(state: S, mc: &mut [u8])
     ensures { (key nonce : List ℕ) → S.lanes state ≡ (S.family state).initial key nonce
         → mc.new ≡ xor_bytes mc.old (stream_by (S.family state) key nonce (length mc.old)) }
 {

@@ -1,8 +1,8 @@
 //! A cipher text that is decrypted piece by piece into a lent destination.
 
-ghost use Rattle.std.specs.Prelude.{◌≡◌, ◌⊎◌, ◌↔◌, ℕ, ◌+◌, ◌^◌, ◌<◌, ◌≤◌, ◌++◌, List, [], length, take, Some, None, IsOk, IfOk, IfErr, OnOk, OnErr};
+ghost use Rattle.std.specs.Prelude.{◌≡◌, ◌⊎◌, ◌↔◌, ℕ, ◌+◌, ◌^◌, ◌<◌, ◌≤◌, ◌++◌, List, [], length, take, drop, Some, None, IsOk, IfOk, IfErr, OnOk, OnErr};
 ghost use Rattle.aegis_core.specs.Sealing.{Unseals};
-ghost use Rattle.aegis_core.specs.Streams.{Decrypts, decrypted_total, decrypted_bytes, decrypted_room, RefusesPiece};
+ghost use Rattle.aegis_core.specs.Streams.{Decrypts, decrypted_total, decrypted_bytes, decrypted_rest, decrypted_room, RefusesPiece};
 
 use crate::crypt::are_same;
 use crate::error::Error;
@@ -41,6 +41,7 @@ impl<
         ensures total { decrypted_total result ≡ 0 }
         ensures prefix { decrypted_bytes result ≡ [] }
         ensures room { decrypted_room result ≡ length plaintext.old }
+        ensures rest { decrypted_rest result ≡ plaintext.old }
         ensures holds { Decrypts S.family S.lanes K.variant result key.now nonce.now associated_data.now [] }
     {
         Decryptor {
@@ -60,6 +61,7 @@ impl<
         ensures total { OnOk result (decrypted_total self.new ≡ decrypted_total self.old + length ciphertext.now) }
         ensures room { OnOk result (decrypted_room self.new ≡ decrypted_room self.old) }
         ensures long { OnOk result (length (decrypted_bytes self.new) ≡ length (decrypted_bytes self.old) + length ciphertext.now) }
+        ensures rest { OnOk result (decrypted_rest self.new ≡ drop (length ciphertext.now) (decrypted_rest self.old)) }
         ensures kept { OnOk result (take (length (decrypted_bytes self.old)) (decrypted_bytes self.new) ≡ decrypted_bytes self.old) }
         ensures holds { (key nonce ad c : List ℕ) → Decrypts S.family S.lanes K.variant self.old key nonce ad c
             → OnOk result (Decrypts S.family S.lanes K.variant self.new key nonce ad (c ++ ciphertext.now)) }

@@ -6,7 +6,7 @@ ghost use Rattle.aegis_core.specs.Held.{lane_count};
 
 /// How many lanes are used.
 #[derive(Clone, Copy)]
-pub enum LaneCount {
+pub(crate) enum LaneCount {
     One,
     Two,
     Four,
@@ -14,7 +14,7 @@ pub enum LaneCount {
 
 impl LaneCount {
     /// The count of this number.
-    pub fn of(lanes: usize) -> LaneCount
+    pub(crate) fn of(lanes: usize) -> LaneCount
         requires { IsLaneCount lanes }
         ensures { lane_count result ≡ lanes }
     {

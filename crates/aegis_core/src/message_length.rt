@@ -6,7 +6,7 @@ use crate::error::Error;
 use std::alloc::AllocError;
 
 // The most bytes that a message has, 2^61 - 1.
-pub const MOST: u64 = 0x1fff_ffff_ffff_ffff;
+pub(crate) const MOST: u64 = 0x1fff_ffff_ffff_ffff;
 
 /// The total length of a message that comes in pieces, in bytes.
 pub struct MessageLength {

@@ -36,15 +36,6 @@ impl<S: Copy> Clone for Pieces<S> {
 
 impl<S: Copy> Copy for Pieces<S> {}
 
-// The lesser of the two.
-fn part_len(left: usize, room: usize) -> usize
-    ensures left { result ≤ left }
-    ensures room { result ≤ room }
-    ensures some { 0 < left → 0 < room → 0 < result }
-{
-    if left < room { left } else { room }
-}
-
 impl<S: LaneState> Pieces<S> {
     ghost use Rattle.std.specs.Prelude.{◌≡◌, ◌⊎◌, ◌↔◌, ℕ, ◌+◌, ◌%◌, ◌++◌, List, [], length, drop, replicate, IsTrue};
     ghost use Rattle.aegis_core.specs.Family.{Family, absorbed, cipher_text, keyed, sealed_by, mac_by};
@@ -52,7 +43,7 @@ impl<S: LaneState> Pieces<S> {
 
     /// The empty message, after associated data of at most 2^61 - 1 bytes, on lanes in their initial
     /// state.
-    pub fn start(lanes: S, ad: &[u8]) -> Pieces<S>
+    pub(crate) fn start(lanes: S, ad: &[u8]) -> Pieces<S>
         requires { length ad.now < 2 ^ 61 }
         ensures total { total_of result ≡ 0 }
         ensures holds { (key nonce : List ℕ) → S.lanes lanes ≡ (S.family lanes).initial key nonce
@@ -160,7 +151,7 @@ impl<S: LaneState> Pieces<S> {
         let mut at = 0;
         'parts: while at < piece.len() {
             let used = (self.total % rate as u64) as usize;
-            let n = part_len(piece.len() - at, rate - used);
+            let n = (piece.len() - at).min(rate - used);
             self.encrypt_part(&mut piece[at..at + n]);
             at += n;
         }
@@ -180,7 +171,7 @@ impl<S: LaneState> Pieces<S> {
         let mut at = 0;
         'parts: while at < piece.len() {
             let used = (self.total % rate as u64) as usize;
-            let n = part_len(piece.len() - at, rate - used);
+            let n = (piece.len() - at).min(rate - used);
             self.decrypt_part(&mut piece[at..at + n]);
             at += n;
         }
@@ -197,7 +188,7 @@ impl<S: LaneState> Pieces<S> {
         let mut at = 0;
         'parts: while at < piece.len() {
             let used = (self.total % rate as u64) as usize;
-            let n = part_len(piece.len() - at, rate - used);
+            let n = (piece.len() - at).min(rate - used);
             self.take_in(&piece[at..at + n]);
             at += n;
         }

@@ -9,8 +9,8 @@ use crate::lane_state::LaneState;
 use crate::pieces::Pieces;
 use std::marker::Model;
 
-/// A destination, and how much of its front is written. Contracts see the written bytes and how many
-/// there may be.
+/// A destination, and how much of its front is written. Contracts see the written bytes, how many there may
+/// be, and the bytes behind them, which stay as they were lent.
 #[derive(Drop)]
 pub struct Quarantine<'a> {
     buf: &'a mut [u8],
@@ -18,12 +18,12 @@ pub struct Quarantine<'a> {
 }
 
 impl<'a> Model for Quarantine<'a> {
-    ghost use Rattle.std.specs.Prelude.{◌≤◌, length, take};
+    ghost use Rattle.std.specs.Prelude.{◌≤◌, length, take, drop};
     ghost use Rattle.aegis_core.specs.Written.{Written};
 
     ghost Value = { Written };
 
-    ghost view = { λ q. record { bytes = take q.len q.buf.now; capacity = length q.buf.now } };
+    ghost view = { λ q. record { bytes = take q.len q.buf.now; capacity = length q.buf.now; rest = drop q.len q.buf.now } };
 
     ghost invariant = { λ q. q.len ≤ length q.buf.now };
 }
@@ -33,6 +33,7 @@ impl<'a> Quarantine<'a> {
     pub fn new(buf: &'a mut [u8]) -> Quarantine<'a>
         ensures bytes { result.bytes ≡ [] }
         ensures capacity { result.capacity ≡ length buf.old }
+        ensures rest { result.rest ≡ buf.old }
     {
         Quarantine { buf, len: 0 }
     }
@@ -54,6 +55,7 @@ impl<'a> Quarantine<'a> {
         requires { length self.old.bytes + length piece.now ≤ self.old.capacity }
         ensures bytes { self.new.bytes ≡ self.old.bytes ++ piece.now }
         ensures capacity { self.new.capacity ≡ self.old.capacity }
+        ensures rest { self.new.rest ≡ drop (length piece.now) self.old.rest }
     {
         let end = self.len + piece.len();
         self.buf[self.len..end].copy_from_slice(piece);
@@ -65,6 +67,7 @@ impl<'a> Quarantine<'a> {
         requires room { length self.old.bytes + length piece.now ≤ self.old.capacity }
         requires fits { total_of pieces.old + length piece.now < 2 ^ 61 }
         ensures capacity { self.new.capacity ≡ self.old.capacity }
+        ensures rest { self.new.rest ≡ drop (length piece.now) self.old.rest }
         ensures long { length self.new.bytes ≡ length self.old.bytes + length piece.now }
         ensures total { total_of pieces.new ≡ total_of pieces.old + length piece.now }
         ensures holds { (f : Family) (key nonce ad : List ℕ) → Holds S.family S.lanes f pieces.old key nonce ad self.old.bytes

@@ -2,7 +2,7 @@
 
 /// What a tag adds up: the whole of each lane, or one half.
 #[derive(Clone, Copy)]
-pub enum TagPart {
+pub(crate) enum TagPart {
     Whole,
     Low,
     High,

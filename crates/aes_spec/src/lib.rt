@@ -7,9 +7,6 @@
 ghost use Rattle.std.specs.Prelude.{◌≡◌, ◌^◌, ◌<◌};
 ghost use Rattle.aes_spec.specs.Field.{mul, affine, S};
 
-#[cfg(test)]
-mod tests;
-
 /// The product of two bytes in the field: without carries, modulo x^8 + x^4 + x^3 + x + 1 (FIPS 197,
 /// section 4.2). It branches on its arguments.
 pub fn gf_mul(a: u8, b: u8) -> u8

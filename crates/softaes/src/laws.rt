@@ -1,4 +1,6 @@
-//! Laws that join several calls: the whole cipher is undone, and both paths agree.
+//! Laws that join several calls: the whole cipher is undone, both paths agree, and each table word has its
+//! rule.
 
 pub mod cipher;
 pub mod paths;
+pub mod tables;

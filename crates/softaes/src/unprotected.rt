@@ -6,7 +6,7 @@
 mod block;
 pub mod key_schedule;
 mod rounds;
-mod tables;
+pub(crate) mod tables;
 
 pub use block::Block;
 pub use rounds::SoftAes;

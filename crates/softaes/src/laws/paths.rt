@@ -96,35 +96,50 @@ pub fn key_expansion_256(key: &[u8; 32]) -> ([Block; 15], [TableBlock; 15])
     )
 }
 
-/// The round keys of the equivalent inverse cipher for a key of 16 bytes.
-pub fn inverse_key_schedule_128(key: &[u8; 16]) -> ([Block; 11], [TableBlock; 11])
-    ensures value { result.0 ≡ inverse_keys (expand key.now) }
+/// The 11 round keys of the equivalent inverse cipher (FIPS 197, section 5.3.5) of any 11 round keys, given
+/// as blocks of either path.
+pub fn inverse_key_schedule_128(
+    enc: &[Block; 11],
+    table_enc: &[TableBlock; 11],
+) -> ([Block; 11], [TableBlock; 11])
+    requires same { enc.now ≡ table_enc.now }
+    ensures value { result.0 ≡ inverse_keys enc.now }
     ensures same { result.0 ≡ result.1 }
 {
     (
-        key_schedule::inverse_key_schedule_128(&key_schedule::key_expansion_128(key)),
-        by_tables::inverse_key_schedule_128(&by_tables::key_expansion_128(key)),
+        key_schedule::inverse_key_schedule_128(enc),
+        by_tables::inverse_key_schedule_128(table_enc),
     )
 }
 
-/// The round keys of the equivalent inverse cipher for a key of 24 bytes.
-pub fn inverse_key_schedule_192(key: &[u8; 24]) -> ([Block; 13], [TableBlock; 13])
-    ensures value { result.0 ≡ inverse_keys (expand key.now) }
+/// The 13 round keys of the equivalent inverse cipher (FIPS 197, section 5.3.5) of any 13 round keys, given
+/// as blocks of either path.
+pub fn inverse_key_schedule_192(
+    enc: &[Block; 13],
+    table_enc: &[TableBlock; 13],
+) -> ([Block; 13], [TableBlock; 13])
+    requires same { enc.now ≡ table_enc.now }
+    ensures value { result.0 ≡ inverse_keys enc.now }
     ensures same { result.0 ≡ result.1 }
 {
     (
-        key_schedule::inverse_key_schedule_192(&key_schedule::key_expansion_192(key)),
-        by_tables::inverse_key_schedule_192(&by_tables::key_expansion_192(key)),
+        key_schedule::inverse_key_schedule_192(enc),
+        by_tables::inverse_key_schedule_192(table_enc),
     )
 }
 
-/// The round keys of the equivalent inverse cipher for a key of 32 bytes.
-pub fn inverse_key_schedule_256(key: &[u8; 32]) -> ([Block; 15], [TableBlock; 15])
-    ensures value { result.0 ≡ inverse_keys (expand key.now) }
+/// The 15 round keys of the equivalent inverse cipher (FIPS 197, section 5.3.5) of any 15 round keys, given
+/// as blocks of either path.
+pub fn inverse_key_schedule_256(
+    enc: &[Block; 15],
+    table_enc: &[TableBlock; 15],
+) -> ([Block; 15], [TableBlock; 15])
+    requires same { enc.now ≡ table_enc.now }
+    ensures value { result.0 ≡ inverse_keys enc.now }
     ensures same { result.0 ≡ result.1 }
 {
     (
-        key_schedule::inverse_key_schedule_256(&key_schedule::key_expansion_256(key)),
-        by_tables::inverse_key_schedule_256(&by_tables::key_expansion_256(key)),
+        key_schedule::inverse_key_schedule_256(enc),
+        by_tables::inverse_key_schedule_256(table_enc),
     )
 }

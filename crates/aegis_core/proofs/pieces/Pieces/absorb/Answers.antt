@@ -10,9 +10,9 @@ parts-preserved g c =
     let lanes = g.S.LaneState.lanes in
     let i = c.parts.invariant in
     let at : ℕ = c.parts.at in
-    let n : ℕ = c.part_len-n.result in
+    let n : ℕ = c.min-n.result in
     let piece = c.args.piece.now in
-    let left : n ≤ length c.args.piece.now - at = c.part_len-n.ensures.left in
+    let left : n ≤ length c.args.piece.now - at = omega (arith, c.min-n.ensures) in
     let test : at < length c.args.piece.now = c.parts-test.true in
     let lp : length (take (at + n - at) (drop at c.args.piece.now)) ≡ n = part_len_is c.args.piece.now at n (omega arith) in
     record {
