@@ -3,8 +3,7 @@
 ghost use Rattle.std.specs.Prelude.{◌≡◌};
 ghost use Rattle.aegis_core.specs.Streams.{encrypted_total};
 
-use aegis::Error;
-use aegis_core::{Cipher, CipherKind, Decryptor, Encryptor, LaneState};
+use aegis_core::{Cipher, CipherKind, Decryptor, Encryptor, Error, LaneState};
 use std::alloc::Global;
 use std::process::Abort;
 

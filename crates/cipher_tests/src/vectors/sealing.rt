@@ -3,7 +3,8 @@
 ghost use Rattle.std.specs.Prelude.{◌≡◌, ◌⊎◌};
 
 use super::{is_hex, stepped};
-use aegis::{aegis128l, aegis128x2, aegis128x4, aegis256, aegis256x2, aegis256x4};
+use aegis_128::{aegis128l, aegis128x2, aegis128x4};
+use aegis_256::{aegis256, aegis256x2, aegis256x4};
 use aegis_core::{Cipher, CipherKind, LaneState};
 use std::alloc::Global;
 use std::process::Abort;

@@ -4,7 +4,8 @@ ghost use Rattle.std.specs.Prelude.{◌≡◌, ◌^◌, ◌<◌, ◌≤◌, leng
 ghost use Rattle.aegis_core.specs.Streams.{encrypted_total};
 
 use super::stepped;
-use aegis::{aegis128l, aegis256};
+use aegis_128::aegis128l;
+use aegis_256::aegis256;
 use aegis_core::{Cipher, CipherKind, Decryptor, Encryptor, LaneState};
 use std::process::Abort;
 

@@ -4,8 +4,9 @@ ghost use Rattle.std.specs.Prelude.{◌≡◌, ◌⊎◌};
 ghost use Rattle.aegis_core.specs.Streams.{mac_total};
 
 use super::{is_hex, stepped};
-use aegis::{Error, aegis128l, aegis128x2, aegis128x4, aegis256, aegis256x2, aegis256x4};
-use aegis_core::{CipherKind, LaneState, Mac};
+use aegis_128::{aegis128l, aegis128x2, aegis128x4};
+use aegis_256::{aegis256, aegis256x2, aegis256x4};
+use aegis_core::{CipherKind, Error, LaneState, Mac};
 use std::alloc::Global;
 use std::process::Abort;
 use std::test::Fail;
