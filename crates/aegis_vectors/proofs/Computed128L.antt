@@ -1,9 +1,9 @@
 -- The vector of AEGIS-128L, computed. The computation is cut into a few updates each, by the states between them.
-use Rattle.std.proofs.Common.{◌≡◌, ℕ, List, [], ◌∷◌, ◌++◌, take, drop, fold, refl, ap, ap₂, ◌∙◌}
+use Rattle.std.proofs.Common.{◌≡◌, ℕ, List, [], ◌∷◌, take, drop, refl, ap, ap₂, ◌∙◌}
 use Rattle.aes_spec.specs.Bytes.{xor_bytes, on_bytes}
 use Rattle.aes_spec.specs.Field.{carryless, remainder, mul}
 use Rattle.aegis_core.specs.Blocks.{block_at, first_blocks}
-use Rattle.aegis_core.specs.Lanes.{Block, Lane, State, at, times, lanes_from, context, lengths}
+use Rattle.aegis_core.specs.Lanes.{Lane, State, at, times, lanes_from, context, lengths}
 use Rattle.aegis_core.specs.Lanes128.{update_lane_128, update_lanes_128, start_lane_128, add_context_128, initial_lane_128, initial_128, z0, z1, final_lane_128, tag_of_128}
 use Rattle.aegis_core.specs.Family.{Family, family_128, keyed, absorbed, cipher_text, encrypted}
 use Rattle.aegis_core.specs.Sealing.{seal}

@@ -1,5 +1,5 @@
 -- The vector of AEGIS-256X4, computed. The computation is cut into a few updates each, by the states between them.
-use Rattle.std.proofs.Common.{◌≡◌, ℕ, List, [], ◌∷◌, ◌++◌, take, drop, fold, refl, ap, ap₂, ◌∙◌}
+use Rattle.std.proofs.Common.{◌≡◌, ℕ, List, [], ◌∷◌, ◌++◌, take, fold, refl, ap, ap₂, ◌∙◌}
 use Rattle.aes_spec.specs.Bytes.{xor_bytes, on_bytes}
 use Rattle.aes_spec.specs.Field.{carryless, remainder, mul}
 use Rattle.aegis_core.specs.Blocks.{block_at, first_blocks}
