@@ -13,8 +13,8 @@ use Rattle.raf_tree_tests.specs.Change.{IsChange, Carried}
 abbrev pub SoFar : Hashing → List ℕ → ℕ → ℕ → ℕ → ℕ → ℕ → Kept → Kept → Type 0
 SoFar H text chunk_size first mid end index old now =
     (before after : List (List ℕ))
-      → length before ≤ old.max_chunks → IsChange text chunk_size first mid end before after
-      → Keeps H old (leaves H before) → Since H (leaves H before) (leaves H after) first index now
+    → length before ≤ old.max_chunks → IsChange text chunk_size first mid end before after
+    → Keeps H old (leaves H before) → Since H (leaves H before) (leaves H after) first index now
 
 pub none_put : (H : Hashing) (laws : TreeLaws H) (text : List ℕ) (chunk_size first mid end : ℕ) (old : Kept) → SoFar H text chunk_size first mid end first old old
 none_put H laws text chunk_size first mid end old before after fits change keeps = laws.begins (leaves H before) (leaves H after) first old keeps

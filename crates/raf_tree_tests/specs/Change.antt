@@ -16,8 +16,8 @@ pub record IsChange (text : List ℕ) (chunk_size first mid end : ℕ) (before a
 abbrev pub Carried : Hashing → List ℕ → ℕ → ℕ → ℕ → ℕ → ℕ → Kept → Kept → Type 0
 Carried H text chunk_size count first mid end old new =
     (before after : List (List ℕ))
-      → length before ≤ old.max_chunks → length after ≡ count → IsChange text chunk_size first mid end before after
-      → Keeps H old (leaves H before) → Keeps H new (leaves H after)
+    → length before ≤ old.max_chunks → length after ≡ count → IsChange text chunk_size first mid end before after
+    → Keeps H old (leaves H before) → Keeps H new (leaves H after)
 
 -- hashes asked by a change: one for each touched chunk, and those of the update
 pub record ChangeCalls (count first mid end h before now : ℕ) : Type 0 where

@@ -2,6 +2,7 @@
 ghost use Rattle.std.specs.Prelude.{◌≡◌, ℕ, ◌+◌, ◌-◌, ◌*◌, ◌^◌, ◌<◌, ◌≤◌, List, length, OnOk};
 ghost use Rattle.counts.specs.Counts.{HasCause};
 ghost use Rattle.raf_tree.specs.Kept.{tree_height};
+ghost use Rattle.raf_tree.specs.Steps.{SameShape};
 ghost use Rattle.raf_tree_tests.specs.Change.{Carried, ChangeCalls};
 
 use raf_tree::{HashFault, MerkleHasher, Tree, tree_laws};
@@ -26,6 +27,7 @@ pub fn change<H: MerkleHasher>(
     requires mid { mid ≤ end }
     requires end { end ≤ tree.old.max_chunks }
     ensures keeps { OnOk result (Carried (H.hashing (H.setting hasher.old)) text.now chunk_size count first mid end tree.old tree.new) }
+    ensures shape { SameShape tree.old tree.new }
     ensures setting { H.setting hasher.new ≡ H.setting hasher.old }
     ensures cause { HasCause (H.faults hasher.old) (H.faults hasher.new) result }
     ensures calls { ChangeCalls count first mid end (tree_height tree.old) (H.calls hasher.old) (H.calls hasher.new) }
