@@ -1,5 +1,5 @@
 -- What holds of the tree of chunks, for those that carry one through the changes of a file (this project's own).
-use Rattle.std.specs.Prelude.{◌≡◌, ℕ, ◌+◌, ◌^◌, ◌<◌, ◌≤◌, List, [], length, get_or}
+use Rattle.std.specs.Prelude.{◌≡◌, ℕ, ◌+◌, ◌<◌, ◌≤◌, List, [], length, get_or}
 use Rattle.raf_tree.specs.Hashing.{Hashing}
 use Rattle.raf_tree.specs.Tree.{leaves, node}
 use Rattle.raf_tree.specs.Kept.{Kept, Keeps, KeepsBeside, IsKept, kept, tree_height}

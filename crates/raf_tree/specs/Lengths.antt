@@ -1,5 +1,5 @@
 -- Each answer of a hasher has its length.
-use Rattle.std.specs.Prelude.{ℕ, List}
+use Rattle.std.specs.Prelude.{ℕ}
 use Rattle.std.proofs.lemmas.List.{length-replicate}
 use Rattle.sha2.proofs.Facts256.{length-sha256}
 use Rattle.raf_tree.specs.Hashing.{IsHashing, zeros}

@@ -1,5 +1,5 @@
 use Rattle.std.proofs.Common.{◌≡◌, ℕ, ◌^◌, ◌<◌, ◌≤◌, sym, subst, ap, ◌∙◌}
-use Rattle.raf_tree.specs.Kept.{Kept, tree_height}
+use Rattle.raf_tree.specs.Kept.{tree_height}
 use Rattle.raf_tree.proofs.Heights.{height_fits, height_least}
 use Rattle.raf_tree.proofs.tree.Tree.height.Goals as goal
 
