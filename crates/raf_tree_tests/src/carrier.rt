@@ -1,5 +1,5 @@
 //! What a change of a file does with its tree, for any hasher: the leaf of each touched chunk is put, and one update ends it.
-ghost use Rattle.std.specs.Prelude.{◌≡◌, ℕ, ◌+◌, ◌-◌, ◌*◌, ◌^◌, ◌<◌, ◌≤◌, List, length, OnOk};
+ghost use Rattle.std.specs.Prelude.{◌≡◌, ◌+◌, ◌-◌, ◌*◌, ◌^◌, ◌<◌, ◌≤◌, length, OnOk};
 ghost use Rattle.counts.specs.Counts.{HasCause};
 ghost use Rattle.raf_tree.specs.Kept.{tree_height};
 ghost use Rattle.raf_tree.specs.Steps.{SameShape};
