@@ -1,4 +1,4 @@
-use Rattle.std.proofs.Common.{◌≡◌, ℕ, ◌+◌, ◌-◌, refl, ap, ◌∙◌, arith}
+use Rattle.std.proofs.Common.{refl, ap, ◌∙◌, arith}
 use Rattle.raf_tree.specs.Hashing.{Hashing}
 use Rattle.raf_tree_tests.proofs.Changed.{none_put, one_put, all_put}
 use Rattle.raf_tree_tests.proofs.carrier.change.Goals as goal
