@@ -2,7 +2,7 @@
 ghost use Rattle.std.specs.Prelude.{◌≡◌, ◌≤◌, [], ℕ, List, Some, drop, Contains, IsErr, ◌↔◌, length, IfOk, OnErr};
 ghost use Rattle.std.specs.Io.{ReadsAtMost, WritesAtMost};
 ghost use Rattle.std.specs.Io.KnownBytes.{ReadConsumes, WriteAppends};
-ghost use Rattle.raf.specs.Counts.{HasCause, raised};
+ghost use Rattle.counts.specs.Counts.{HasCause, raised};
 ghost use Rattle.raf_tool.specs.Streams.{TellsAsBefore, TakesSome};
 ghost use Rattle.raf_tool.specs.Memory.{Memory};
 
