@@ -1,6 +1,6 @@
 use Rattle.std.proofs.Common.{refl}
 use Rattle.aegis_core.specs.Lanes128.{update_lane_128}
-use Rattle.aegis_core.proofs.lanes128.Lane128.update.Goals as goal
+use Rattle.aegis_core.proofs.lanes128.Lane128.updated.Goals as goal
 
 pub returns : goal.returns
 unfolding update_lane_128

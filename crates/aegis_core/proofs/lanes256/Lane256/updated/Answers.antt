@@ -1,6 +1,6 @@
 use Rattle.std.proofs.Common.{refl}
 use Rattle.aegis_core.specs.Lanes256.{update_lane_256}
-use Rattle.aegis_core.proofs.lanes256.Lane256.update.Goals as goal
+use Rattle.aegis_core.proofs.lanes256.Lane256.updated.Goals as goal
 
 pub returns : goal.returns
 unfolding update_lane_256
