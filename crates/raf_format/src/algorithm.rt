@@ -5,8 +5,8 @@ ghost use Rattle.aegis_core.specs.Sealing.{seal, Unseals, key_len, nonce_len};
 ghost use Rattle.aegis_core.specs.declared.variant.Variant.{Variant};
 ghost use Rattle.raf_format.specs.Cipher.{cipher_of, id_of};
 
-/// An AEGIS cipher as the algorithm of a file. Other implementations than this crate's markers are excluded by convention. Tags have 16
-/// or 32 bytes; associated data and messages have at most 2^61 - 1.
+/// An AEGIS cipher as the algorithm of a file. Other implementations than this crate's markers are excluded by convention. Keys and
+/// nonces have `KEY_LEN` and `NONCE_LEN` bytes, tags 16 or 32; associated data and messages have at most 2^61 - 1.
 pub trait Algorithm {
     /// A key.
     type Key: Copy;
@@ -37,7 +37,7 @@ pub trait Algorithm {
         ensures is { result.now ≡ key_list key.now }
         ensures len { length result.now ≡ key_len variant };
 
-    /// The key of these bytes.
+    /// The key of these `KEY_LEN` bytes.
     fn key_from(bytes: &[u8]) -> Self::Key
         requires { length bytes.now ≡ key_len variant }
         ensures { key_list result ≡ bytes.now };

@@ -104,7 +104,7 @@ pub fn parse_header(bytes: &[u8; 96]) -> Result<Header, FormatError>
     Ok(header)
 }
 
-/// The last 32 bytes are the tag of those before, under the file's key.
+/// Whether the last 32 bytes are the tag of the 64 before, under the header key that the file's key gives for the id in them.
 pub fn header_tag_fits<A: Algorithm>(bytes: &[u8; 96], key: &A::Key) -> bool
     ensures { IsTrue result ↔ Tagged (cipher_of A.variant) (A.key_list key.now) bytes.now }
 {

@@ -87,7 +87,7 @@ pub fn header_tag_of<A: Algorithm>(key: &A::Key, id: &[u8; 32], head: &[u8; 64])
     tag_of(A::key_bytes(&header_key), head)
 }
 
-/// The key of a file's chunks, which its key gives for its id.
+/// The key that a file's records are sealed under, which the file's key gives for its id.
 pub fn chunk_key<A: Algorithm>(key: &A::Key, id: &[u8; 32]) -> A::Key
     ensures { A.key_list result ≡ (cipher_of A.variant).chunk_key (A.key_list key.now) id.now }
 {
@@ -123,7 +123,7 @@ pub fn derive_key<const KEY_LEN: usize>(
     Ok(key)
 }
 
-/// The same for an algorithm's key, whose length is right.
+/// The same for an algorithm's key, whose length is right: the only refusal is `ContextTooLong`.
 pub fn derive_master_key<A: Algorithm>(
     master_key: &A::Key,
     context: &[u8],

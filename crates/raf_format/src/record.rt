@@ -17,8 +17,8 @@ fn beside_bytes(id: &[u8; 32], index: u64) -> [u8; 40]
     ad
 }
 
-/// Seals the chunk in the middle of a record's place, under the nonce in front of it. The tag of `tag_len` bytes, 16 or 32, goes behind
-/// it. A chunk has at most 2^61 - 1 bytes.
+/// Seals a record in place: it holds the nonce, the chunk and room for the tag before, and the nonce, the cipher text and the tag after.
+/// The file's id and the chunk's index are sealed beside the chunk. The tag has `tag_len` bytes, 16 or 32, a chunk at most 2^61 - 1.
 pub fn seal_record<A: Algorithm>(
     chunk_key: &A::Key,
     id: &[u8; 32],
@@ -38,8 +38,8 @@ pub fn seal_record<A: Algorithm>(
     A::seal(chunk_key, nonce, &ad, mc, tag)
 }
 
-/// Opens a record in place, under the same conditions as `seal_record`: whether it is the sealed form of a chunk, which then stands in
-/// its middle. Else every byte of the middle is 0xaa. Nonce and tag stay.
+/// Opens a record in place, under the same conditions as `seal_record`: whether it is the sealed form of a chunk under this key, id and
+/// index, which then stands between nonce and tag. Else every byte there is 0xaa. Nonce and tag stay.
 pub fn open_record<A: Algorithm>(
     chunk_key: &A::Key,
     id: &[u8; 32],

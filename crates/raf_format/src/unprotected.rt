@@ -1,5 +1,5 @@
 //! The same algorithms, with records sealed on tables: faster where no vector unit helps, and open to whoever can time the cache. Header
-//! tags and derived keys are made over the root's block, as ever. A file doesn't tell which of both sealed it.
+//! tags and derived keys are made over the root's block, as ever. A file doesn't tell which of the two sealed it.
 
 use crate::marker::Marker;
 use aegis_128::{aegis128l, aegis128x2, aegis128x4};

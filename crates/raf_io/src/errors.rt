@@ -67,16 +67,16 @@ pub enum Reason {
     /// The chunk size isn't between 16 and 1048576 bytes.
     #[error("invalid configuration")]
     ChunkSize,
-    /// The hasher's answers are too short or too long.
+    /// The hasher's answers have fewer than 8 or more than 64 bytes.
     #[error("hash_len must be between 8 and 64")]
     HashLen,
     /// A tree for no chunk at all.
     #[error("max_chunks must be at least 1")]
     MaxChunks,
-    /// A key of another length.
+    /// A key that has neither 16 nor 32 bytes.
     #[error("key length must be 16 or 32 bytes")]
     KeyLength,
-    /// A context that is too long for its key.
+    /// A context of more than 120 bytes beside a key of 16, or of more than 72 beside a key of 32.
     #[error("context too long")]
     ContextTooLong,
     /// No room for the commitment.

@@ -17,7 +17,7 @@ pub trait RafRng: Drop {
     /// How many bytes were asked, failed calls included.
     ghost asked: { Self → ℕ };
 
-    /// It tells, and fails only where fewer bytes are left than asked.
+    /// It fails only where it tells fewer bytes than are asked.
     ghost exact: { Bool };
 
     /// Fills `buf` with the next bytes. The only error is `Rng`.

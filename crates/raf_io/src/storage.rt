@@ -6,8 +6,9 @@ ghost use Rattle.raf_io.specs.Storage.{spliced, resized, Told, ReadsFrom, Torn, 
 
 use std::io;
 
-/// Bytes that can be read and written at an offset. A storage may tell what it holds, as memory does, or not, as a file does: no call
-/// changes whether it tells. All counts stop at 2^64 - 1.
+/// Bytes that can be read and written at an offset. Offsets, sizes and lengths are in bytes; an offset and a length sum to less than
+/// 2^64. A storage may tell what it holds, as memory does, or not, as a file does: no call changes whether it tells. All counts stop at
+/// 2^64 - 1.
 pub trait RafIo: Drop {
     /// What it holds, where it tells.
     ghost bytes: { Self → Option (List ℕ) };
