@@ -1,0 +1,5 @@
+pub mod Grammar
+pub mod Spell
+pub mod Unspell
+pub mod Sealing
+pub mod Opening
