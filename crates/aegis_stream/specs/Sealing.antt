@@ -19,7 +19,7 @@ pub record Spells (s : Sealing) (messages : List (List ℕ)) (written : List ℕ
 pub record IsSealed (old new : Sealing) (message : List ℕ) (last : Bool) (out_old out_new : List ℕ) (n : ℕ) : Type 0 where
   pub going : old.ended ≡ false
   pub now : new ≡ record old { frames = old.frames + 1; ended = last }
-  pub count : n ≡ length message + 21
+  pub count : n ≡ 21 + length message
   pub frame : take n out_new ≡ frame old.key old.prefix old.frames last message
   pub rest : drop n out_new ≡ drop n out_old
   -- what was written so far is the stream of the messages so far, whatever they were

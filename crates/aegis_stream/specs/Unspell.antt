@@ -64,18 +64,20 @@ abbrev pub past_end : List ℕ → State
 past_end [] = Ended
 past_end (_ ∷ _) = Trailing
 
--- a message, and then what the bytes after its frame give
+-- a message, and where its frame isn't the last one, what comes after it
 abbrev pub one_more : Bool → List ℕ → List ℕ → Unspelled → Unspelled
 one_more true m rest u = record { messages = m ∷ []; state = past_end rest }
 one_more false m rest u = record { messages = m ∷ u.messages; state = u.state }
 
+-- what b gives that begins so: no message, or one, and then what the bytes after its frame give
+abbrev pub follow : (List ℕ → Unspelled) → List ℕ → Next → Unspelled
+follow rest b (Stops s) = no_more s
+follow rest b (Opens last m) = let left = drop (21 + length m) b in one_more last m left (rest left)
+
 -- the first n frames, from frame number i on
 unfoldable pub unspell_frames : ℕ → List ℕ → List ℕ → ℕ → List ℕ → Unspelled
 unspell_frames zero key prefix i b = no_more More
-unspell_frames (suc n) key prefix i b =
-    elim (next key prefix i b) [
-      Stops s ↦ no_more s
-    | Opens last m ↦ one_more last m (drop (21 + length m) b) (unspell_frames n key prefix (suc i) (drop (21 + length m) b)) ]
+unspell_frames (suc n) key prefix i b = follow (unspell_frames n key prefix (suc i)) b (next key prefix i b)
 
 -- the frames from number i on: there are fewer than bytes
 abbrev pub unspell_from : List ℕ → List ℕ → ℕ → List ℕ → Unspelled

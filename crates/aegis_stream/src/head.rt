@@ -5,7 +5,7 @@ ghost use Rattle.aegis_stream.specs.Unspell.{is_malformed, length_in};
 ghost use Rattle.aegis_stream.specs.Heads.{Reads};
 
 use crate::error::StreamError;
-use crate::frame::{HEAD_BYTES, MESSAGE_BYTES};
+use crate::frame::{HEAD_BYTES, fits};
 
 // What a frame's first bytes say.
 #[derive(Clone, Copy)]
@@ -21,18 +21,21 @@ pub fn read_head(bytes: &[u8]) -> Result<Option<Head>, StreamError>
     ensures malformed { OnErr result (is_malformed bytes.now ≡ true) }
     ensures refused { IfErr result (λ e. e ≡ StreamError.Frame) }
 {
-    let Some(mark) = bytes.first() else {
+    if bytes.is_empty() {
         return Ok(None);
-    };
-    if *mark > 1 {
+    }
+    let mark = bytes[0];
+    if mark > 1 {
         return Err(StreamError::Frame);
     }
     if bytes.len() < HEAD_BYTES {
         return Ok(None);
     }
-    let last = *mark == 1;
-    let len = u32::from_le_bytes([bytes[1], bytes[2], bytes[3], bytes[4]]) as usize;
-    if len > MESSAGE_BYTES || (len == 0 && !last) {
+    let last = mark == 1;
+    let mut len = [0u8; 4];
+    len.copy_from_slice(&bytes[1..HEAD_BYTES]);
+    let len = u32::from_le_bytes(len) as usize;
+    if !fits(last, len) {
         return Err(StreamError::Frame);
     }
     Ok(Some(Head { last, len }))

@@ -1,12 +1,12 @@
 //! The bytes of the frame that is begun.
 
-ghost use Rattle.std.specs.Prelude.{◌≡◌, ℕ, ◌+◌, ◌-◌, ◌<◌, ◌≤◌, ◌++◌, List, [], min, length, take, drop, IfOk, Some, None, OnOk, OnErr};
+ghost use Rattle.std.specs.Prelude.{◌≡◌, ℕ, ◌+◌, ◌-◌, ◌<◌, ◌≤◌, ◌++◌, List, [], min, length, take, drop, IfOk, Some, None};
+ghost use Rattle.std.specs.Bool.{OnTrue, OnFalse};
 ghost use Rattle.aegis_core.specs.Sealing.{Unseals};
 ghost use Rattle.aegis_core.specs.declared.variant.Variant.TheVariants.{Aegis128L};
 
 use crate::frame::{FRAME_BYTES, HEAD_BYTES, MESSAGE_BYTES};
 use aegis_128::aegis128l::Aegis128L;
-use aegis_core::Error;
 use std::alloc::{AllocError, Global};
 use std::marker::Model;
 
@@ -72,31 +72,30 @@ impl Pending {
         self.filled = len;
     }
 
-    // Opens the frame that is there, whose message has `len` bytes, into the front of `out`. Where no message has
-    // its tag, `out` stays and the frame's bytes are lost.
-    pub fn open(
-        &mut self,
-        key: &[u8; 16],
-        nonce: &[u8; 16],
-        len: usize,
-        out: &mut [u8],
-    ) -> Result<(), Error>
-        requires whole { length self.old ≡ len + 21 }
+    // Opens the frame that is there, whose message has `len` bytes, into the front of `out`: whether a message
+    // has its cipher text and tag. Where none has, `out` stays, and of the frame the head and the length.
+    pub fn open(&mut self, key: &[u8; 16], nonce: &[u8; 16], len: usize, out: &mut [u8]) -> bool
+        requires whole { length self.old ≡ 21 + len }
         requires room { len ≤ length out.old }
-        ensures message { OnOk result (Unseals Aegis128L 16 key.now nonce.now (take 5 self.old) (take len (drop 5 self.old)) (take 16 (drop (5 + len) self.old)) (Some (take len out.new))) }
-        ensures none { OnErr result (Unseals Aegis128L 16 key.now nonce.now (take 5 self.old) (take len (drop 5 self.old)) (take 16 (drop (5 + len) self.old)) None) }
-        ensures bytes { OnErr result (length self.new ≡ length self.old) }
-        ensures out { OnErr result (out.new ≡ out.old) }
+        ensures message { OnTrue result (Unseals Aegis128L 16 key.now nonce.now (take 5 self.old) (take len (drop 5 self.old)) (take 16 (drop (5 + len) self.old)) (Some (take len out.new))) }
+        ensures emptied { OnTrue result (self.new ≡ []) }
+        ensures none { OnFalse result (Unseals Aegis128L 16 key.now nonce.now (take 5 self.old) (take len (drop 5 self.old)) (take 16 (drop (5 + len) self.old)) None) }
+        ensures count { OnFalse result (length self.new ≡ length self.old) }
+        ensures head { OnFalse result (take 5 self.new ≡ take 5 self.old) }
+        ensures out { OnFalse result (out.new ≡ out.old) }
         ensures rest { drop len out.new ≡ drop len out.old }
-        ensures emptied { OnOk result (self.new ≡ []) }
     {
         let (head, rest) = self.buffer.split_at_mut(HEAD_BYTES);
         let (text, rest) = rest.split_at_mut(len);
         let mut tag = [0u8; 16];
         tag.copy_from_slice(&rest[..16]);
-        Aegis128L::<16>::new(key, nonce).decrypt_in_place(text, &tag, head)?;
-        out[..len].copy_from_slice(text);
-        self.filled = 0;
-        Ok(())
+        match Aegis128L::<16>::new(key, nonce).decrypt_in_place(text, &tag, head) {
+            Ok(()) => {
+                out[..len].copy_from_slice(text);
+                self.filled = 0;
+                true
+            }
+            Err(_) => false,
+        }
     }
 }

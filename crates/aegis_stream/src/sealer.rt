@@ -5,8 +5,7 @@ ghost use Rattle.aegis_stream.specs.Grammar.{is_message_len};
 ghost use Rattle.aegis_stream.specs.Sealing.{Spells, IsSealed};
 
 use crate::error::StreamError;
-use crate::frame::{FRAME_BYTES, HEAD_BYTES, head, nonce};
-use aegis_128::aegis128l::Aegis128L;
+use crate::frame::{FRAME_BYTES, write};
 use std::fmt;
 use std::marker::Model;
 
@@ -62,7 +61,7 @@ impl Sealer {
     /// `Finished`, exactly where the last piece was sealed; nothing changes then.
     pub fn seal(&mut self, piece: &[u8], last: bool, out: &mut [u8]) -> Result<usize, StreamError>
         requires piece { IsTrue (is_message_len last (length piece.now)) }
-        requires room { length piece.now + 21 ≤ length out.old }
+        requires room { 21 + length piece.now ≤ length out.old }
         requires frames { self.old.frames < 2 ^ 64 - 1 }
         ensures sealed { IfOk result (IsSealed self.old self.new piece.now last out.old out.new) }
         ensures ok { IsOk result ↔ (self.old.ended ≡ false) }
@@ -73,16 +72,11 @@ impl Sealer {
         if self.ended {
             return Err(StreamError::Finished);
         }
-        let head = head(last, piece.len() as u32);
-        let end = HEAD_BYTES + piece.len();
-        out[..HEAD_BYTES].copy_from_slice(&head);
-        out[HEAD_BYTES..end].copy_from_slice(piece);
-        let cipher = Aegis128L::<16>::new(&self.key, &nonce(&self.prefix, self.frames));
-        let tag = cipher.encrypt_in_place(&mut out[HEAD_BYTES..end], &head);
-        out[end..piece.len() + FRAME_BYTES].copy_from_slice(&tag);
+        let len = FRAME_BYTES + piece.len();
+        write(&self.key, &self.prefix, self.frames, last, piece, &mut out[..len]);
         self.frames += 1;
         self.ended = last;
-        Ok(piece.len() + FRAME_BYTES)
+        Ok(len)
     }
 }
 

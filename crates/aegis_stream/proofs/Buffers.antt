@@ -1,0 +1,34 @@
+-- The parts of a frame at the front of a buffer.
+use Rattle.std.proofs.Common.{◌≡◌, ℕ, ◌+◌, ◌-◌, ◌≤◌, List, [], ◌++◌, length, take, drop, sym, ap, ◌∙◌, arith, length-drop}
+use Rattle.std.proofs.lemmas.List.{take-take, take_at, drop-take, drop-drop, drop_all, append-nil, length-take-le}
+use borrow.Rule.Slice.PartMut.{put_mid}
+
+module _ (b : List ℕ) (n len : ℕ) (fits : n ≤ length b) (is : n ≡ 21 + len) where
+  pub head_in : take 5 b ≡ take 5 (take n b)
+  head_in = sym (take-take 5 n b (omega arith))
+
+  pub text_in : take len (drop 5 b) ≡ take len (drop 5 (take n b))
+  text_in =
+      let e : n ≡ 5 + (16 + len) = omega arith in
+      sym (take-take len (16 + len) (drop 5 b) (omega arith))
+      ∙ ap (take len) (sym (drop-take 5 (16 + len) b))
+      ∙ ap (λ (k : ℕ). take len (drop 5 (take k b))) (sym e)
+
+  pub tag_in : take 16 (drop len (drop 5 b)) ≡ take 16 (drop (5 + len) (take n b))
+  tag_in =
+      let e : n ≡ 5 + len + 16 = omega arith in
+      ap (take 16) (drop-drop len 5 b)
+      ∙ sym (take-take 16 16 (drop (5 + len) b) (omega arith))
+      ∙ ap (take 16) (sym (drop-take (5 + len) 16 b))
+      ∙ ap (λ (k : ℕ). take 16 (drop (5 + len) (take k b))) (sym e)
+
+  -- after a write behind the head
+  pub head_stays : (h x : List ℕ) → h ≡ take 5 b → take 5 (take n (h ++ x)) ≡ take 5 (take n b)
+  head_stays h x same =
+      take-take 5 n (h ++ x) (omega arith) ∙ take_at h x 5 (ap length same ∙ length-take-le 5 b (omega arith)) ∙ same ∙ head_in
+
+-- a write to the rest of eight bytes
+pub put_rest : (p x : List ℕ) (n : ℕ) → length p ≡ 8 → put_mid n (8 - n) p x ≡ take n p ++ x
+put_rest p x n eight =
+    ap (λ (l : List ℕ). take n p ++ (x ++ l)) (drop_all (8 - n) (drop n p) (omega (arith, length-drop n p)))
+    ∙ ap (λ (l : List ℕ). take n p ++ l) (append-nil x)
