@@ -1,6 +1,8 @@
 -- The parts of a frame at the front of a buffer.
-use Rattle.std.proofs.Common.{◌≡◌, ℕ, ◌+◌, ◌-◌, ◌≤◌, List, [], ◌++◌, length, take, drop, sym, ap, ◌∙◌, arith, length-drop}
+use Rattle.std.proofs.Common.{◌≡◌, ℕ, ◌+◌, ◌-◌, ◌≤◌, List, [], ◌++◌, Option, subst, length, take, drop, sym, ap, ◌∙◌, arith, length-drop}
 use Rattle.std.proofs.lemmas.List.{take-take, take_at, drop-take, drop-drop, drop_all, append-nil, length-take-le}
+use Rattle.aegis_core.specs.Sealing.{Unseals}
+use Rattle.aegis_core.specs.declared.variant.Variant.TheVariants.{Aegis128L}
 use borrow.Rule.Slice.PartMut.{put_mid}
 
 module _ (b : List ℕ) (n len : ℕ) (fits : n ≤ length b) (is : n ≡ 21 + len) where
@@ -32,3 +34,13 @@ pub put_rest : (p x : List ℕ) (n : ℕ) → length p ≡ 8 → put_mid n (8 - 
 put_rest p x n eight =
     ap (λ (l : List ℕ). take n p ++ (x ++ l)) (drop_all (8 - n) (drop n p) (omega (arith, length-drop n p)))
     ∙ ap (λ (l : List ℕ). take n p ++ l) (append-nil x)
+
+-- an answer of unsealing, at equal bytes
+pub unseals_at : (k l n o h i c d t u : List ℕ) (a : Option (List ℕ)) → k ≡ l → n ≡ o → h ≡ i → c ≡ d → t ≡ u
+    → Unseals Aegis128L 16 k n h c t a → Unseals Aegis128L 16 l o i d u a
+unseals_at k l n o h i c d t u a ek en eh ec et is =
+    subst (λ (x : List ℕ). Unseals Aegis128L 16 x o i d u a) ek
+      (subst (λ (x : List ℕ). Unseals Aegis128L 16 k x i d u a) en
+        (subst (λ (x : List ℕ). Unseals Aegis128L 16 k n x d u a) eh
+          (subst (λ (x : List ℕ). Unseals Aegis128L 16 k n h x u a) ec
+            (subst (λ (x : List ℕ). Unseals Aegis128L 16 k n h c x a) et is))))

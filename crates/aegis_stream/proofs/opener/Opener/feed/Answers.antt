@@ -1,4 +1,4 @@
-use Rattle.std.proofs.Common.{ℕ, ◌+◌, ◌-◌, ◌≡◌, ◌≤◌, List, ◌++◌, Option, Some, None, false, length, take, drop, refl, sym, ap, subst, ◌∙◌, arith, length-take, length-append, take-append-drop}
+use Rattle.std.proofs.Common.{ℕ, ◌+◌, ◌-◌, ◌≡◌, ◌≤◌, List, ◌++◌, Option, Some, None, Ok, Err, false, length, take, drop, refl, sym, ap, subst, ◌∙◌, arith, length-take, length-append, take-append-drop}
 use Rattle.std.proofs.lemmas.List.{take_all}
 use Rattle.std.proofs.lemmas.Slice.{take-put_mid}
 use borrow.Rule.Slice.PartMut.{put_mid}
@@ -33,11 +33,54 @@ returns-then-input-missing-clause-feeds c =
 
 pub returns-in-Ok-clause-feeds : goal.returns-in-Ok-clause-feeds
 returns-in-Ok-clause-feeds c =
-    let f = c.split_at.ensures.front in
-    let b = c.split_at.ensures.back in
-    let d = c.copy_from_slice-2.ensures.after in
-    let m = c.in-Ok.ensures in
-    ?
+    let o = c.self.inside in
+    let x = c.args.input.now in
+    let out = c.args.out.now in
+    let n = o.prefix_len in
+    let u = o.unsealer in
+    let q = c.feed.new.self in
+    let fed = c.in-Ok.fed in
+    let front = c.split_at.result.0.now in
+    let rest = c.split_at.result.1.now in
+    let copied = c.copy_from_slice-2.new.self in
+    let old : Opening = record { key = o.key; prefix = take n o.prefix; begun = u.begun; frames = u.frames; ended = u.ended; refused = o.refused } in
+    let cut : front ++ rest ≡ x =
+        ap (λ (l : List ℕ). l ++ rest) c.split_at.ensures.front ∙ ap (λ (l : List ℕ). take (8 - n) x ++ l) c.split_at.ensures.back ∙ take-append-drop (8 - n) x in
+    let whole : put_mid n (8 - n) o.prefix copied ≡ old.prefix ++ front =
+        put_rest o.prefix copied n c.self.told.1 ∙ ap (λ (l : List ℕ). old.prefix ++ l) c.copy_from_slice-2.ensures.after in
+    let eight : length (old.prefix ++ front) ≡ 8 =
+        omega (arith, length-append old.prefix front, length-take n o.prefix, c.split_at.ensures.front_len, c.self.invariant, c.self.told.1) in
+    let all : take 8 (put_mid n (8 - n) o.prefix copied) ≡ old.prefix ++ front =
+        take_all 8 (put_mid n (8 - n) o.prefix copied) (omega (arith, ap length whole, eight)) ∙ whole in
+    let new : Opening = record { key = o.key; prefix = take 8 (put_mid n (8 - n) o.prefix copied); begun = q.begun; frames = q.frames; ended = q.ended; refused = o.refused } in
+    let is : new ≡ record { key = o.key; prefix = old.prefix ++ front; begun = q.begun; frames = q.frames; ended = q.ended; refused = None } =
+        (λ i. record { key = o.key; prefix = all i; begun = q.begun; frames = q.frames; ended = q.ended; refused = c.in_default.is i }) in
+    let moves : Moves o.key (old.prefix ++ front) u q rest out c.feed.new.out (Ok fed) =
+        subst (λ (p : List ℕ). Moves o.key p u q rest out c.feed.new.out (Ok fed)) whole c.in-Ok.ensures in
+    subst (λ (a : Opening). (taken : List ℕ) → Took a taken → IsFed a new taken x out c.feed.new.out (record { taken = 8 - n + fed.taken; written = fed.written; ended = fed.ended })) c.self.view_is
+        (λ taken t. fed_is old taken t c.in_default.is front rest x cut eight out c.feed.new.out q fed (8 - n) new (sym c.split_at.ensures.front_len) is moves)
 
 pub returns-in-Err-clause-feeds : goal.returns-in-Err-clause-feeds
-returns-in-Err-clause-feeds c = ?
+returns-in-Err-clause-feeds c =
+    let o = c.self.inside in
+    let x = c.args.input.now in
+    let out = c.args.out.now in
+    let n = o.prefix_len in
+    let u = o.unsealer in
+    let q = c.feed.new.self in
+    let e = c.in-Err.refusal in
+    let front = c.split_at.result.0.now in
+    let rest = c.split_at.result.1.now in
+    let copied = c.copy_from_slice-2.new.self in
+    let old : Opening = record { key = o.key; prefix = take n o.prefix; begun = u.begun; frames = u.frames; ended = u.ended; refused = o.refused } in
+    let new : Opening = record { key = o.key; prefix = take n o.prefix; begun = q.begun; frames = q.frames; ended = q.ended; refused = Some e } in
+    let cut : front ++ rest ≡ x =
+        ap (λ (l : List ℕ). l ++ rest) c.split_at.ensures.front ∙ ap (λ (l : List ℕ). take (8 - n) x ++ l) c.split_at.ensures.back ∙ take-append-drop (8 - n) x in
+    let whole : put_mid n (8 - n) o.prefix copied ≡ old.prefix ++ front =
+        put_rest o.prefix copied n c.self.told.1 ∙ ap (λ (l : List ℕ). old.prefix ++ l) c.copy_from_slice-2.ensures.after in
+    let eight : length (old.prefix ++ front) ≡ 8 =
+        omega (arith, length-append old.prefix front, length-take n o.prefix, c.split_at.ensures.front_len, c.self.invariant, c.self.told.1) in
+    let moves : Moves o.key (old.prefix ++ front) u q rest out c.feed.new.out (Err e) =
+        subst (λ (p : List ℕ). Moves o.key p u q rest out c.feed.new.out (Err e)) whole c.in-Err.ensures in
+    subst (λ (a : Opening). (taken : List ℕ) → Took a taken → IsRefused a new taken x out c.feed.new.out e) c.self.view_is
+        (λ taken t. refused_is old taken t c.in_default.is front rest x cut eight out c.feed.new.out q e moves)
