@@ -20,7 +20,7 @@ use Rattle.aegis_stream.proofs.Fronts.{mark-append, length_in-append, malformed-
 use Rattle.aegis_stream.proofs.Frames.{laws}
 
 -- one part of a list, and the next
-take_next : (k m : ℕ) (x : List ℕ) → k ≤ length x → take k x ++ take m (drop k x) ≡ take (k + m) x
+pub take_next : (k m : ℕ) (x : List ℕ) → k ≤ length x → take k x ++ take m (drop k x) ≡ take (k + m) x
 take_next k m x le =
     let len : length (take k x) ≡ k = length-take-le k x le in
     sym (take-append-add (take k x) (drop k x) m)

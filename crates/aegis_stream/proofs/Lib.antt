@@ -8,3 +8,4 @@ pub mod Progresses
 pub mod Openings
 pub mod Buffers
 pub mod Feeding
+pub mod Back

@@ -176,10 +176,10 @@ module _ (old : Opening) (taken : List ℕ) (t : Took old taken) (go : old.refus
   fed_from : (prefix : List ℕ) (q : Progress) (g : List ℕ) (ms : List (List ℕ)) (s : State) → Brings prefix q g ms s
       → (input out_old out_new : List ℕ) (fed : Fed) → take fed.taken input ≡ g → fed.taken ≤ length input → (0 < length input → 0 < fed.taken)
       → concat ms ≡ take fed.written out_new → drop fed.written out_new ≡ drop fed.written out_old → fed.ended ≡ q.ended
-      → (fed.taken < length input → (q.frames ≡ old.frames + 1) × (q.begun ≡ [])) → length ms ≤ 1
+      → ((fed.taken ≡ length input) × (q.frames ≡ old.frames)) ⊎ ((q.frames ≡ old.frames + 1) × (q.begun ≡ []))
       → ((unspell old.key (taken ++ input)).messages ≡ so_far → refusal_of (unspell old.key (taken ++ input)).state ≡ None)
       → IsFed old (goes prefix q) taken input out_old out_new fed
-  fed_from prefix q g ms s b input out_old out_new fed is within takes written rest ended stops one due =
+  fed_from prefix q g ms s b input out_old out_new fed is within takes written rest ended stops due =
       let u : List ℕ → Unspelled = λ x. unspell old.key (taken ++ x) in
       let result : u g ≡ record { messages = so_far ++ ms; state = s } = result_is prefix q g ms s b in
       let at : u (take fed.taken input) ≡ record { messages = so_far ++ ms; state = s } = ap u is ∙ result in
@@ -193,7 +193,6 @@ module _ (old : Opening) (taken : List ℕ) (t : Took old taken) (go : old.refus
         rest = rest;
         ended = ended ∙ b.ended ∙ ap (λ (v : Unspelled). is_ended v.state) (sym at);
         stops = stops;
-        one_frame = omega (arith, b.frames);
         due = due;
       }
 
@@ -203,7 +202,7 @@ module _ (old : Opening) (taken : List ℕ) (t : Took old taken) (go : old.refus
       let b = begins input short in
       let all : take (length input) input ≡ input = take_all (length input) input (omega arith) in
       fed_from (old.prefix ++ input) progress input [] More b input out out (record { taken = length input; written = 0; ended = false })
-          all (omega arith) (λ h. h) refl refl (sym (t.start go (omega arith)).2) (λ h. absurd (omega arith)) (omega arith)
+          all (omega arith) (λ h. h) refl refl (sym (t.start go (omega arith)).2) (inl (refl, refl))
           (λ _. ap (λ (v : Unspelled). refusal_of v.state) (result_is (old.prefix ++ input) progress input [] More b))
 
   module _ (front : List ℕ) (eight : length (old.prefix ++ front) ≡ 8) (rest out_old out_new : List ℕ) (q : Progress) where
@@ -218,7 +217,7 @@ module _ (old : Opening) (taken : List ℕ) (t : Took old taken) (go : old.refus
         let all : take (length front + fed.taken) input ≡ input = take_all (length front + fed.taken) input (omega (arith, k.taken)) in
         fed_from (old.prefix ++ front) q input [] k.state b input out_old out_new (record fed { taken = length front + fed.taken })
             all (omega (arith, k.taken)) (λ h. omega (arith, k.taken)) (ap (λ (n : ℕ). take n out_new) (sym k.written)) (ap (drop fed.written) k.out)
-            (k.ended.1 ∙ ap (λ (r : Progress). r.ended) (sym k.now)) (λ h. absurd (omega (arith, k.taken))) (omega arith)
+            (k.ended.1 ∙ ap (λ (r : Progress). r.ended) (sym k.now)) (inl (omega (arith, k.taken), ap (λ (r : Progress). r.frames) k.now))
             (λ _. ap (λ (v : Unspelled). refusal_of v.state) (result_is (old.prefix ++ front) q input [] k.state b) ∙ k.due)
 
     opened_feeds : (fed : Fed) → IsOpened old.key (old.prefix ++ front) progress q rest out_old out_new fed
@@ -231,7 +230,7 @@ module _ (old : Opening) (taken : List ℕ) (t : Took old taken) (go : old.refus
         fed_from (old.prefix ++ front) q g (k.message ∷ []) (after_frame k.last) b input out_old out_new (record fed { taken = length front + fed.taken })
             is (omega (arith, k.within)) (λ h. omega (arith, k.some)) (append-nil k.message ∙ sym k.out) k.rest
             (k.ended ∙ ap (λ (r : Progress). r.ended) (sym k.now))
-            (λ h. (ap (λ (r : Progress). r.frames) k.now, ap (λ (r : Progress). r.begun) k.now)) (omega arith)
+            (inr (ap (λ (r : Progress). r.frames) k.now, ap (λ (r : Progress). r.begun) k.now))
             (λ same. absurd (brings_one b same))
       where
         brings_one : Brings (old.prefix ++ front) q (front ++ take fed.taken rest) (k.message ∷ []) (after_frame k.last) → (unspell old.key (taken ++ input)).messages ≡ so_far → ⊥

@@ -8,7 +8,7 @@ use Rattle.aegis_stream.specs.Grammar.{is_message_len, frame}
 use Rattle.aegis_stream.specs.Spell.{is_last, frames_from, spell, spelled, AreMessages}
 use Rattle.aegis_stream.specs.Unspell.{State, Unspelled, no_more, one_more, past_end, unspell_from, unspell}
 use Rattle.aegis_stream.specs.Unspell.State.{Ended, Trailing, Frame, Tag, More}
-use Rattle.aegis_stream.specs.Laws.{GivesFront, IsStream}
+use Rattle.aegis_stream.specs.Laws.{GivesFront}
 use Rattle.aegis_stream.proofs.Frames.{length-frame, frame_opens, less_stops}
 use Rattle.aegis_stream.proofs.Unspelled.{from_stops, from_frame}
 
@@ -197,7 +197,7 @@ frames_go_on key prefix i (m ∷ ms) others some =
     never [] = refl
     never (x ∷ xs) = refl
 
-goes_on : (key prefix : List ℕ) (ms others : List (List ℕ)) → 0 < length others
+pub goes_on : (key prefix : List ℕ) (ms others : List (List ℕ)) → 0 < length others
     → take (length (spelled key prefix false ms)) (spell key prefix (ms ++ others)) ≡ spelled key prefix false ms
 goes_on key prefix ms others some =
     let on = frames_go_on key prefix 0 ms others some in
@@ -206,8 +206,5 @@ goes_on key prefix ms others some =
     ∙ ap (take (length w)) (sym (append_assoc prefix (frames_from key prefix 0 false ms) on.0))
     ∙ take_at w on.0 (length w) refl
 
-pub stream_is : IsStream
-stream_is = record {
-  fronts = λ key prefix ms n eight some are. gives_front key prefix ms (take n (spell key prefix ms)) (gives_spelled key prefix ms n eight some are);
-  goes_on = goes_on;
-}
+pub fronts : (key prefix : List ℕ) (ms : List (List ℕ)) (n : ℕ) → length prefix ≡ 8 → 0 < length ms → AreMessages ms → GivesFront key prefix ms (take n (spell key prefix ms))
+fronts key prefix ms n eight some are = gives_front key prefix ms (take n (spell key prefix ms)) (gives_spelled key prefix ms n eight some are)

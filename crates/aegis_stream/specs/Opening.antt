@@ -1,5 +1,5 @@
 -- What contracts see of an opener (this project's own).
-use Rattle.std.specs.Prelude.{◌≡◌, ℕ, ◌+◌, ◌<◌, ◌≤◌, ◌∷◌, [], ◌++◌, List, length, take, drop, Bool, true, false, sum_by, Option, Some, None, Result, Ok, Err, nat_lt, if◌then◌else◌}
+use Rattle.std.specs.Prelude.{◌≡◌, ℕ, ◌+◌, ◌<◌, ◌≤◌, ◌⊎◌, ◌∷◌, [], ◌++◌, List, length, take, drop, Bool, true, false, sum_by, Option, Some, None, Result, Ok, Err, nat_lt, if◌then◌else◌}
 use Rattle.std.specs.List.{concat}
 use Rattle.aegis_stream.specs.Unspell.{State, Unspelled, unspell, unspell_from, past_end, no_more}
 use Rattle.aegis_stream.specs.Unspell.State.{Ended, Trailing, Frame, Tag, More}
@@ -62,9 +62,8 @@ pub record IsFed (old new : Opening) (taken input out_old out_new : List ℕ) (f
       ≡ concat (unspell old.key taken).messages ++ take fed.written out_new
   pub rest : drop fed.written out_new ≡ drop fed.written out_old
   pub ended : fed.ended ≡ is_ended (unspell old.key (taken ++ take fed.taken input)).state
-  -- the input was taken to its end, or to the end of a frame
-  pub stops : fed.taken < length input → (new.frames ≡ old.frames + 1) × (new.begun ≡ [])
-  pub one_frame : new.frames ≤ old.frames + 1
+  -- the input was taken to its end, which opens no frame, or to the end of the first frame that it completes
+  pub stops : ((fed.taken ≡ length input) × (new.frames ≡ old.frames)) ⊎ ((new.frames ≡ old.frames + 1) × (new.begun ≡ []))
   -- no refusal was due: the input brings a message, or the stream then stands as one that goes on or ended
   pub due : (unspell old.key (taken ++ input)).messages ≡ (unspell old.key taken).messages
       → refusal_of (unspell old.key (taken ++ input)).state ≡ None

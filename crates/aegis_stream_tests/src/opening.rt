@@ -1,6 +1,6 @@
 //! Streams as an independent program spells them, and what an opener makes of them and of what is none.
 
-use crate::streams::{KEY, PREFIX, joined, message, opened, sealed};
+use crate::streams::{KEY, PREFIX, joined, message, open_in_steps, sealed};
 use aegis_stream::{MESSAGE_BYTES, Opener, Sealer, StreamError};
 use std::test::Fail;
 
@@ -26,7 +26,7 @@ fn streams_are_those_of_an_independent_program(rt: HostRuntime) -> Result<(), Fa
         for len in lens {
             messages.extend_from_slice(&message(rt.alloc(), *len)?)?;
         }
-        let back = opened(rt.alloc(), &bytes, bytes.len())?;
+        let back = open_in_steps(rt.alloc(), &bytes, bytes.len())?;
         assert!(rt; back.released == messages && back.ended && back.refused.is_none());
     }
     Ok(())
@@ -40,7 +40,7 @@ fn input_of_three_lengths_comes_back(rt: HostRuntime) -> Result<(), Fail> {
     for (lens, len) in CUT {
         let bytes = joined(rt.alloc(), &sealed(rt.alloc(), &PREFIX, lens)?)?;
         assert_eq!(rt; bytes.len(), len);
-        let back = opened(rt.alloc(), &bytes, 4096)?;
+        let back = open_in_steps(rt.alloc(), &bytes, 4096)?;
         assert!(rt; back.released == message(rt.alloc(), lens[0])? && back.ended && back.refused.is_none());
     }
     Ok(())
@@ -49,13 +49,13 @@ fn input_of_three_lengths_comes_back(rt: HostRuntime) -> Result<(), Fail> {
 #[test]
 fn a_stream_that_was_cut_or_changed_gives_no_more(rt: HostRuntime) -> Result<(), Fail> {
     let mut bytes = joined(rt.alloc(), &sealed(rt.alloc(), &PREFIX, &[65536, 0])?)?;
-    let cut = opened(rt.alloc(), bytes.get(..65585).ok_or("short")?, 65585)?;
+    let cut = open_in_steps(rt.alloc(), bytes.get(..65585).ok_or("short")?, 65585)?;
     assert!(rt; cut.released.len() == 65536 && !cut.ended && cut.refused.is_none());
     bytes.push(0)?;
-    let longer = opened(rt.alloc(), &bytes, 65587)?;
+    let longer = open_in_steps(rt.alloc(), &bytes, 65587)?;
     assert!(rt; longer.released.len() == 65536 && longer.ended && longer.refused == Some(StreamError::Trailing));
     *bytes.get_mut(8).ok_or("short")? = 2;
-    let marked = opened(rt.alloc(), &bytes, 65587)?;
+    let marked = open_in_steps(rt.alloc(), &bytes, 65587)?;
     assert!(rt; marked.released.is_empty() && !marked.ended && marked.refused == Some(StreamError::Frame));
     Ok(())
 }
@@ -76,7 +76,7 @@ fn every_cut_of_three_frames_gives_the_messages_of_its_whole_frames(rt: HostRunt
             _ => (3, 48),
         };
         for step in [1, 7, 119] {
-            let back = opened(rt.alloc(), bytes.get(..cut).ok_or("short")?, step)?;
+            let back = open_in_steps(rt.alloc(), bytes.get(..cut).ok_or("short")?, step)?;
             assert!(rt; back.released.as_slice() == messages.get(..len).ok_or("short")?, "cut at {cut}");
             assert!(rt; back.frames == frames && back.ended == (cut == 119) && back.refused.is_none(), "cut at {cut}");
         }
@@ -104,7 +104,7 @@ fn frames_in_another_order_are_refused(rt: HostRuntime) -> Result<(), Fail> {
             bytes.extend_from_slice(parts.get(*i).ok_or("no such part")?)?;
         }
         for step in [1, 7, 200] {
-            let back = opened(rt.alloc(), &bytes, step)?;
+            let back = open_in_steps(rt.alloc(), &bytes, step)?;
             assert!(rt; back.released.len() == len && !back.ended);
             assert_eq!(rt; back.refused, Some(StreamError::InvalidTag));
         }
@@ -117,7 +117,7 @@ fn a_frame_of_another_stream_is_refused(rt: HostRuntime) -> Result<(), Fail> {
     let mut parts = sealed(rt.alloc(), &PREFIX, &[5, 40, 3])?;
     let others = sealed(rt.alloc(), &[8; 8], &[5, 40, 3])?;
     *parts.get_mut(2).ok_or("no such part")? = others.get(2).ok_or("no such part")?.to_vec(rt.alloc())?;
-    let back = opened(rt.alloc(), &joined(rt.alloc(), &parts)?, 7)?;
+    let back = open_in_steps(rt.alloc(), &joined(rt.alloc(), &parts)?, 7)?;
     assert!(rt; back.released == message(rt.alloc(), 5)? && back.frames == 1);
     assert_eq!(rt; back.refused, Some(StreamError::InvalidTag));
     Ok(())
@@ -147,7 +147,7 @@ fn a_refusal_stands(rt: HostRuntime) -> Result<(), Fail> {
         }
         // Less than all of it is no reason to refuse.
         let less = bytes.get(..bytes.len().saturating_sub(1)).ok_or("short")?;
-        let back = opened(rt.alloc(), less, 3)?;
+        let back = open_in_steps(rt.alloc(), less, 3)?;
         assert!(rt; back.released.is_empty() && !back.ended && back.refused.is_none());
     }
     Ok(())

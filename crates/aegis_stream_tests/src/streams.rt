@@ -55,6 +55,7 @@ pub fn joined(alloc: Global, parts: &[Vec<u8>]) -> Result<Vec<u8>, Fail> {
 
 /// What an opener made of some bytes: the messages that it released, end to end, how many frames it opened, whether it
 /// said that the stream ended, and the refusal that stopped it.
+#[derive(Drop)]
 pub struct Opened {
     pub released: Vec<u8>,
     pub frames: u64,
@@ -63,7 +64,7 @@ pub struct Opened {
 }
 
 /// Feeds bytes to an opener, at most `step` at a time, until a refusal.
-pub fn opened(alloc: Global, bytes: &[u8], step: usize) -> Result<Opened, Fail> {
+pub fn open_in_steps(alloc: Global, bytes: &[u8], step: usize) -> Result<Opened, Fail> {
     let mut opener = Opener::new(alloc, &KEY)?;
     let mut out = vec![in alloc; 0; MESSAGE_BYTES]?;
     let mut released = Vec::new(alloc);
