@@ -1,9 +1,8 @@
 -- The parts of a frame at the front of a buffer.
-use Rattle.std.proofs.Common.{◌≡◌, ℕ, ◌+◌, ◌-◌, ◌≤◌, List, [], ◌++◌, Option, subst, length, take, drop, sym, ap, ◌∙◌, arith, length-drop}
-use Rattle.std.proofs.lemmas.List.{take-take, take_at, drop-take, drop-drop, drop_all, append-nil, length-take-le}
+use Rattle.std.proofs.Common.{◌≡◌, ℕ, ◌+◌, ◌≤◌, List, ◌++◌, Option, subst, length, take, drop, sym, ap, ◌∙◌, arith}
+use Rattle.std.proofs.lemmas.List.{take-take, take_at, drop-take, drop-drop, length-take-le}
 use Rattle.aegis_core.specs.Sealing.{Unseals}
 use Rattle.aegis_core.specs.declared.variant.Variant.TheVariants.{Aegis128L}
-use borrow.Rule.Slice.PartMut.{put_mid}
 
 module _ (b : List ℕ) (n len : ℕ) (fits : n ≤ length b) (is : n ≡ 21 + len) where
   pub head_in : take 5 b ≡ take 5 (take n b)
@@ -28,12 +27,6 @@ module _ (b : List ℕ) (n len : ℕ) (fits : n ≤ length b) (is : n ≡ 21 + l
   pub head_stays : (h x : List ℕ) → h ≡ take 5 b → take 5 (take n (h ++ x)) ≡ take 5 (take n b)
   head_stays h x same =
       take-take 5 n (h ++ x) (omega arith) ∙ take_at h x 5 (ap length same ∙ length-take-le 5 b (omega arith)) ∙ same ∙ head_in
-
--- a write to the rest of eight bytes
-pub put_rest : (p x : List ℕ) (n : ℕ) → length p ≡ 8 → put_mid n (8 - n) p x ≡ take n p ++ x
-put_rest p x n eight =
-    ap (λ (l : List ℕ). take n p ++ (x ++ l)) (drop_all (8 - n) (drop n p) (omega (arith, length-drop n p)))
-    ∙ ap (λ (l : List ℕ). take n p ++ l) (append-nil x)
 
 -- an answer of unsealing, at equal bytes
 pub unseals_at : (k l n o h i c d t u : List ℕ) (a : Option (List ℕ)) → k ≡ l → n ≡ o → h ≡ i → c ≡ d → t ≡ u

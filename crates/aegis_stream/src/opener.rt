@@ -1,6 +1,6 @@
 //! Opening a stream, in whatever pieces its bytes come.
 
-ghost use Rattle.std.specs.Prelude.{◌≡◌, ◌-◌, ◌^◌, ◌<◌, ◌≤◌, List, ℕ, [], false, length, Some, None, Err, IfOk, IfErr};
+ghost use Rattle.std.specs.Prelude.{◌≡◌, ◌+◌, ◌-◌, ◌++◌, ◌^◌, ◌<◌, ◌≤◌, List, ℕ, [], false, length, take, Some, None, Err, IfOk, IfErr};
 ghost use Rattle.aegis_stream.specs.Opening.{Took, Feeds};
 ghost use Rattle.aegis_stream.specs.declared.error.StreamError.{StreamError};
 
@@ -91,8 +91,7 @@ impl Opener {
             });
         }
         let (front, rest) = input.split_at(missing);
-        let mut prefix = self.prefix;
-        prefix[self.prefix_len..].copy_from_slice(front);
+        let prefix = completed(&self.prefix, self.prefix_len, front);
         match self.unsealer.feed(&self.key, &prefix, rest, out) {
             Ok(fed) => {
                 self.prefix = prefix;
@@ -108,6 +107,18 @@ impl Opener {
             }
         }
     }
+}
+
+// The prefix whose first `len` bytes were there and whose others came now.
+fn completed(prefix: &[u8; 8], len: usize, front: &[u8]) -> [u8; 8]
+    requires { len + length front.now ≡ 8 }
+    ensures { result ≡ take len prefix.now ++ front.now }
+{
+    let mut completed = *prefix;
+    if !front.is_empty() {
+        completed[len..].copy_from_slice(front);
+    }
+    completed
 }
 
 impl fmt::Debug for Opener {

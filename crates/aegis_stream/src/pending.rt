@@ -58,6 +58,9 @@ impl Pending {
         ensures bytes { self.new ≡ self.old ++ take result input.now }
     {
         let count = most.saturating_sub(self.filled).min(input.len());
+        if count == 0 {
+            return 0;
+        }
         let end = self.filled + count;
         self.buffer[self.filled..end].copy_from_slice(&input[..count]);
         self.filled = end;

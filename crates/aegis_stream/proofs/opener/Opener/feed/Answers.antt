@@ -5,7 +5,6 @@ use borrow.Rule.Slice.PartMut.{put_mid}
 use Rattle.aegis_stream.specs.Opening.{Opening, Took, IsFed, IsRefused}
 use Rattle.aegis_stream.specs.Progress.{Progress, Moves}
 use Rattle.aegis_stream.specs.declared.fed.Fed.{Fed}
-use Rattle.aegis_stream.proofs.Buffers.{put_rest}
 use Rattle.aegis_stream.proofs.Openings.{short_feeds, fed_is, refused_is}
 use Rattle.aegis_stream.proofs.opener.Opener.feed.Goals as goal
 
@@ -42,17 +41,16 @@ returns-in-Ok-clause-feeds c =
     let fed = c.in-Ok.fed in
     let front = c.split_at.result.0.now in
     let rest = c.split_at.result.1.now in
-    let copied = c.copy_from_slice-2.new.self in
+    let prefix = c.completed-prefix.result in
     let old : Opening = record { key = o.key; prefix = take n o.prefix; begun = u.begun; frames = u.frames; ended = u.ended; refused = o.refused } in
     let cut : front ++ rest ≡ x =
         ap (λ (l : List ℕ). l ++ rest) c.split_at.ensures.front ∙ ap (λ (l : List ℕ). take (8 - n) x ++ l) c.split_at.ensures.back ∙ take-append-drop (8 - n) x in
-    let whole : put_mid n (8 - n) o.prefix copied ≡ old.prefix ++ front =
-        put_rest o.prefix copied n c.self.told.1 ∙ ap (λ (l : List ℕ). old.prefix ++ l) c.copy_from_slice-2.ensures.after in
+    let whole : prefix ≡ old.prefix ++ front = c.completed-prefix.ensures in
     let eight : length (old.prefix ++ front) ≡ 8 =
         omega (arith, length-append old.prefix front, length-take n o.prefix, c.split_at.ensures.front_len, c.self.invariant, c.self.told.1) in
-    let all : take 8 (put_mid n (8 - n) o.prefix copied) ≡ old.prefix ++ front =
-        take_all 8 (put_mid n (8 - n) o.prefix copied) (omega (arith, ap length whole, eight)) ∙ whole in
-    let new : Opening = record { key = o.key; prefix = take 8 (put_mid n (8 - n) o.prefix copied); begun = q.begun; frames = q.frames; ended = q.ended; refused = o.refused } in
+    let all : take 8 prefix ≡ old.prefix ++ front =
+        take_all 8 prefix (omega (arith, ap length whole, eight)) ∙ whole in
+    let new : Opening = record { key = o.key; prefix = take 8 prefix; begun = q.begun; frames = q.frames; ended = q.ended; refused = o.refused } in
     let is : new ≡ record { key = o.key; prefix = old.prefix ++ front; begun = q.begun; frames = q.frames; ended = q.ended; refused = None } =
         (λ i. record { key = o.key; prefix = all i; begun = q.begun; frames = q.frames; ended = q.ended; refused = c.in_default.is i }) in
     let moves : Moves o.key (old.prefix ++ front) u q rest out c.feed.new.out (Ok fed) =
@@ -71,13 +69,12 @@ returns-in-Err-clause-feeds c =
     let e = c.in-Err.refusal in
     let front = c.split_at.result.0.now in
     let rest = c.split_at.result.1.now in
-    let copied = c.copy_from_slice-2.new.self in
+    let prefix = c.completed-prefix.result in
     let old : Opening = record { key = o.key; prefix = take n o.prefix; begun = u.begun; frames = u.frames; ended = u.ended; refused = o.refused } in
     let new : Opening = record { key = o.key; prefix = take n o.prefix; begun = q.begun; frames = q.frames; ended = q.ended; refused = Some e } in
     let cut : front ++ rest ≡ x =
         ap (λ (l : List ℕ). l ++ rest) c.split_at.ensures.front ∙ ap (λ (l : List ℕ). take (8 - n) x ++ l) c.split_at.ensures.back ∙ take-append-drop (8 - n) x in
-    let whole : put_mid n (8 - n) o.prefix copied ≡ old.prefix ++ front =
-        put_rest o.prefix copied n c.self.told.1 ∙ ap (λ (l : List ℕ). old.prefix ++ l) c.copy_from_slice-2.ensures.after in
+    let whole : prefix ≡ old.prefix ++ front = c.completed-prefix.ensures in
     let eight : length (old.prefix ++ front) ≡ 8 =
         omega (arith, length-append old.prefix front, length-take n o.prefix, c.split_at.ensures.front_len, c.self.invariant, c.self.told.1) in
     let moves : Moves o.key (old.prefix ++ front) u q rest out c.feed.new.out (Err e) =
