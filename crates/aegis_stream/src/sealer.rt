@@ -1,7 +1,6 @@
 //! Sealing a stream, frame by frame.
 
-ghost use Rattle.std.specs.Prelude.{◌≡◌, ◌↔◌, ◌+◌, ◌-◌, ◌^◌, ◌<◌, ◌≤◌, [], false, length, IsTrue, IsOk, IfOk, IfErr, OnErr};
-ghost use Rattle.aegis_stream.specs.Grammar.{is_message_len};
+ghost use Rattle.std.specs.Prelude.{◌≡◌, ◌↔◌, ◌+◌, ◌-◌, ◌^◌, ◌<◌, ◌≤◌, [], false, length, IsOk, IfOk, IfErr, OnErr};
 ghost use Rattle.aegis_stream.specs.Sealing.{Spells, IsSealed};
 
 use crate::error::StreamError;
@@ -60,7 +59,8 @@ impl Sealer {
     /// piece has 1 to 65536 bytes; it may be empty where it is the last one. The only refusal is
     /// `Finished`, exactly where the last piece was sealed; nothing changes then.
     pub fn seal(&mut self, piece: &[u8], last: bool, out: &mut [u8]) -> Result<usize, StreamError>
-        requires piece { IsTrue (is_message_len last (length piece.now)) }
+        requires most { length piece.now ≤ 65536 }
+        requires some { last ≡ false → 0 < length piece.now }
         requires room { 21 + length piece.now ≤ length out.old }
         requires frames { self.old.frames < 2 ^ 64 - 1 }
         ensures sealed { IfOk result (IsSealed self.old self.new piece.now last out.old out.new) }

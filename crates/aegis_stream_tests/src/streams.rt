@@ -31,14 +31,17 @@ pub fn sealed(alloc: Global, prefix: &[u8; 8], lens: &[usize]) -> Result<Vec<Vec
     let mut out = vec![in alloc; 0; MESSAGE_BYTES + 21]?;
     for (i, len) in lens.iter().enumerate() {
         let last = i + 1 >= lens.len();
-        if *len > MESSAGE_BYTES || (*len == 0 && !last) || sealer.frames() > 1000 {
+        let piece = message(alloc, *len)?;
+        if piece.len() > MESSAGE_BYTES || out.len() < MESSAGE_BYTES + 21 || sealer.frames() > 1000 {
             return Err(Fail::from("no such message"));
         }
-        let piece = message(alloc, *len)?;
-        if piece.len() != *len {
-            return Err(Fail::from("another length"));
-        }
-        let n = sealer.seal(&piece, last, &mut out)?;
+        let n = if last {
+            sealer.seal(&piece, true, &mut out)?
+        } else if piece.len() > 0 {
+            sealer.seal(&piece, false, &mut out)?
+        } else {
+            return Err(Fail::from("no message"));
+        };
         parts.push(out.get(..n).ok_or("too long")?.to_vec(alloc)?)?;
     }
     Ok(parts)
