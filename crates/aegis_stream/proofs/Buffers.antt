@@ -33,7 +33,7 @@ pub unseals_at : (k l n o h i c d t u : List ℕ) (a : Option (List ℕ)) → k 
     → Unseals Aegis128L 16 k n h c t a → Unseals Aegis128L 16 l o i d u a
 unseals_at k l n o h i c d t u a ek en eh ec et is =
     subst (λ (x : List ℕ). Unseals Aegis128L 16 x o i d u a) ek
-      (subst (λ (x : List ℕ). Unseals Aegis128L 16 k x i d u a) en
-        (subst (λ (x : List ℕ). Unseals Aegis128L 16 k n x d u a) eh
-          (subst (λ (x : List ℕ). Unseals Aegis128L 16 k n h x u a) ec
-            (subst (λ (x : List ℕ). Unseals Aegis128L 16 k n h c x a) et is))))
+    (subst (λ (x : List ℕ). Unseals Aegis128L 16 k x i d u a) en
+    (subst (λ (x : List ℕ). Unseals Aegis128L 16 k n x d u a) eh
+    (subst (λ (x : List ℕ). Unseals Aegis128L 16 k n h x u a) ec
+    (subst (λ (x : List ℕ). Unseals Aegis128L 16 k n h c x a) et is))))

@@ -1,5 +1,5 @@
 -- One call's way through the input.
-use Rattle.std.proofs.Common.{◌≡◌, ◌⊎◌, ℕ, ◌+◌, ◌-◌, ◌<◌, ◌≤◌, min, Bool, true, false, cond, leb, eqb, List, [], ◌∷◌, ◌++◌, length, take, drop, get_or, Option, Some, None, refl, sym, ap, ◌∙◌, subst, arith, inl, inr, length-append, length-take, length-drop}
+use Rattle.std.proofs.Common.{◌≡◌, ℕ, ◌+◌, ◌-◌, ◌<◌, ◌≤◌, min, Bool, true, false, eqb, List, [], ◌∷◌, ◌++◌, length, take, drop, get_or, Option, Some, None, refl, sym, ap, ◌∙◌, subst, arith, inl, inr, length-append, length-take, length-drop}
 use Rattle.std.specs.Prelude.{Result, Ok, Err, IfOk, IfErr}
 use Rattle.std.proofs.Math.Seq.{take-append-add}
 use Rattle.std.proofs.lemmas.List.{append_assoc, append-nil, take_all, take_at, take-take, take-append-drop, length-take-le, take_rest}
@@ -7,9 +7,9 @@ use Rattle.std.proofs.lemmas.Bool.{cases_lt, cond-true, cond-false}
 use Rattle.aegis_core.specs.Sealing.{Unseals, unsealed}
 use Rattle.aegis_core.specs.declared.variant.Variant.TheVariants.{Aegis128L}
 use Rattle.aegis_stream.specs.Grammar.{frame_nonce}
-use Rattle.aegis_stream.specs.Unspell.{Next, is_malformed, is_whole, length_in, message_in, of_message, next, past_end}
+use Rattle.aegis_stream.specs.Unspell.{is_malformed, is_whole, length_in, message_in, of_message, next, past_end}
 use Rattle.aegis_stream.specs.Unspell.State.{Ended, Trailing, Frame, Tag, More}
-use Rattle.aegis_stream.specs.Unspell.Next.{Stops, Opens}
+use Rattle.aegis_stream.specs.Unspell.Next.{Stops}
 use Rattle.aegis_stream.specs.Heads.{ReadsHead}
 use Rattle.aegis_stream.specs.Progress.{Progress, IsBegun, next_in, IsKept, IsOpened, IsStopped, Moves}
 use Rattle.aegis_stream.specs.declared.head.Head.{Head}
@@ -48,15 +48,15 @@ begun_same s t long head len b =
 -- what a wrong tag leaves of the bytes begun
 pub begun_left : (b g h t : List ℕ) → IsBegun b → take (length b) g ≡ b → length h ≡ length g → length b ≤ length g → take 5 h ≡ take 5 g → t ≡ take (length b) h → IsBegun t
 begun_left b g h t ok front len le head is = elim (cases_lt (length b) 5) [
-    inl short ↦
+  | inl short ↦
       let same : t ≡ b =
-          is ∙ sym (take-take (length b) 5 h (omega arith)) ∙ ap (take (length b)) head ∙ take-take (length b) 5 g (omega arith) ∙ front in
+      is ∙ sym (take-take (length b) 5 h (omega arith)) ∙ ap (take (length b)) head ∙ take-take (length b) 5 g (omega arith) ∙ front in
       subst IsBegun (sym same) ok
   | inr long ↦
       let five : take 5 b ≡ take 5 t =
-          ap (take 5) (sym front) ∙ take-take 5 (length b) g long ∙ sym head ∙ sym (take-take 5 (length b) h long) ∙ ap (take 5) (sym is) in
+      ap (take 5) (sym front) ∙ take-take 5 (length b) g long ∙ sym head ∙ sym (take-take 5 (length b) h long) ∙ ap (take 5) (sym is) in
       begun_same b t long five (omega (arith, ap length is, length-take (length b) h)) ok
-  ]
+]
 
 -- the bytes begun, further bytes, and those of them that complete the head
 pub record Headed (b x f : List ℕ) (k : ℕ) : Type 0 where
@@ -130,12 +130,12 @@ module _ (key prefix : List ℕ) (n : ℕ) (e : Bool) (going : e ≡ false) (b x
 
     less : length f < 21 + d.len
     less = elim (cases_lt (length b) 5) [
-        inl short ↦ omega (arith, len_f, h.count)
+      | inl short ↦ omega (arith, len_f, h.count)
       | inr long ↦
           let none : k ≡ 0 = omega (arith, h.count) in
           let same : f ≡ b = h.is ∙ ap (λ (m : ℕ). b ++ take m x) none ∙ append-nil b in
           omega (arith, part_long b h.begun.part long, ap length same, ap length_in same, r.len)
-      ]
+    ]
 
     len_rest : length (drop k x) ≡ length x - k
     len_rest = length-drop k x
@@ -144,9 +144,10 @@ module _ (key prefix : List ℕ) (n : ℕ) (e : Bool) (going : e ≡ false) (b x
     len_g = ap length more ∙ length-append f (take j (drop k x)) ∙ ap (λ (m : ℕ). length f + m) (length-take-le j (drop k x) (omega (arith, count)))
 
     pub filled : (k + j ≤ length x) × (g ≡ b ++ take (k + j) x)
-    filled =
-        (omega (arith, count, within, len_rest),
-          more ∙ ap (λ (l : List ℕ). l ++ take j (drop k x)) h.is ∙ append_assoc b (take k x) (take j (drop k x)) ∙ ap (λ (l : List ℕ). b ++ l) (take_next k j x within))
+    filled = (
+      omega (arith, count, within, len_rest),
+      more ∙ ap (λ (l : List ℕ). l ++ take j (drop k x)) h.is ∙ append_assoc b (take k x) (take j (drop k x)) ∙ ap (λ (l : List ℕ). b ++ l) (take_next k j x within),
+    )
 
     length_in_g : length_in g ≡ d.len
     length_in_g = ap length_in more ∙ length_in-append f (take j (drop k x)) r.long ∙ sym r.len
@@ -202,8 +203,8 @@ module _ (key prefix : List ℕ) (n : ℕ) (e : Bool) (going : e ≡ false) (b x
       wrong_stops nonce w t out_old out_new is u len left out = record {
         state = Tag;
         brings =
-          next_is ∙ ap (next key prefix n) (sym (ap (λ (l : List ℕ). l ++ drop (k + j) x) filled.1 ∙ append_assoc b (take (k + j) x) (drop (k + j) x) ∙ ap (λ (l : List ℕ). b ++ l) (take-append-drop (k + j) x)))
-          ∙ next-append key prefix n g (drop (k + j) x) whole ∙ frame_is ∙ ap (of_message d.last) (message_is nonce None is u);
+            next_is ∙ ap (next key prefix n) (sym (ap (λ (l : List ℕ). l ++ drop (k + j) x) filled.1 ∙ append_assoc b (take (k + j) x) (drop (k + j) x) ∙ ap (λ (l : List ℕ). b ++ l) (take-append-drop (k + j) x)))
+            ∙ next-append key prefix n g (drop (k + j) x) whole ∙ frame_is ∙ ap (of_message d.last) (message_is nonce None is u);
         due = refl;
         count = omega (arith, ap length left, length-take (length b) w, len_b, whole_len all);
         frames = refl;

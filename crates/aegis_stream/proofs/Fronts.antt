@@ -1,12 +1,12 @@
 -- What the front of some bytes says of all of them.
-use Rattle.std.proofs.Common.{◌≡◌, ℕ, ◌+◌, ◌-◌, ◌<◌, ◌≤◌, Bool, true, false, not, cond, ◌&&◌, ◌||◌, ltb, leb, eqb, List, [], ◌∷◌, ◌++◌, length, take, drop, get_or, Option, Some, None, refl, sym, ap, ◌∙◌, arith, inl, inr, length-append, length-drop}
+use Rattle.std.proofs.Common.{◌≡◌, ℕ, ◌+◌, ◌<◌, ◌≤◌, Bool, true, false, not, cond, ◌&&◌, ◌||◌, ltb, leb, eqb, List, ◌++◌, length, take, drop, get_or, Option, sym, ap, ◌∙◌, arith, inl, inr, length-append, length-drop}
 use Rattle.std.proofs.lemmas.List.{take-append-le, drop-append-le, get_or_append_left}
 use Rattle.std.proofs.lemmas.Bool.{cond-true, cond-false, cases_Bool, and_parts, or_cases, or_left, and_from, and_left, ltb-true, leb-true, lt-ltb, le-leb, lt-leb, leb-false, false_from_ne_true, both_ways, and_right, and_cases, cases_lt}
 use Rattle.std.specs.Int.{w32, from_le_bytes}
 use Rattle.aegis_core.specs.Sealing.{unsealed}
 use Rattle.aegis_core.specs.declared.variant.Variant.TheVariants.{Aegis128L}
 use Rattle.aegis_stream.specs.Grammar.{is_message_len, frame_nonce}
-use Rattle.aegis_stream.specs.Unspell.{Next, State, is_malformed, is_whole, length_in, message_in, of_message, next}
+use Rattle.aegis_stream.specs.Unspell.{Next, is_malformed, is_whole, length_in, message_in, of_message, next}
 use Rattle.aegis_stream.specs.Unspell.State.{Frame, More}
 use Rattle.aegis_stream.specs.Unspell.Next.{Stops}
 
@@ -45,11 +45,11 @@ malformed-append f x long =
 pub malformed_more : (f x : List ℕ) → is_malformed f ≡ true → is_malformed (f ++ x) ≡ true
 unfolding is_malformed
 malformed_more f x bad = elim (or_cases (bad_mark (length f) (get_or f 0 0)) (bad_length (length f) (get_or f 0 0) (length_in f)) bad) [
-    inl mark ↦
+  | inl mark ↦
       let parts = and_parts (ltb 0 (length f)) (ltb 1 (get_or f 0 0)) mark in
       let some : 0 < length f = ltb-true 0 (length f) parts.0 in
       let is : bad_mark (length (f ++ x)) (get_or (f ++ x) 0 0) ≡ true =
-          and_from (ltb 0 (length (f ++ x))) (ltb 1 (get_or (f ++ x) 0 0)) (lt-ltb 0 (length (f ++ x)) (omega (arith, length-append f x))) (ap (ltb 1) (mark-append f x some) ∙ parts.1) in
+      and_from (ltb 0 (length (f ++ x))) (ltb 1 (get_or (f ++ x) 0 0)) (lt-ltb 0 (length (f ++ x)) (omega (arith, length-append f x))) (ap (ltb 1) (mark-append f x some) ∙ parts.1) in
       or_left (bad_mark (length (f ++ x)) (get_or (f ++ x) 0 0)) (bad_length (length (f ++ x)) (get_or (f ++ x) 0 0) (length_in (f ++ x))) is
   | inr len ↦
       let parts = and_parts (leb 5 (length f)) (not (is_message_len (eqb (get_or f 0 0) 1) (length_in f))) len in
@@ -80,7 +80,7 @@ part_from f short = and_right (leb 5 (length f)) (leb (21 + length_in f) (length
 pub part_long : (f : List ℕ) → is_whole f ≡ false → 5 ≤ length f → length f < 21 + length_in f
 unfolding is_whole
 part_long f part long = elim (and_cases (leb 5 (length f)) (leb (21 + length_in f) (length f)) part) [
-    inl short ↦ absurd (both_ways (leb 5 (length f)) short (le-leb 5 (length f) long))
+  | inl short ↦ absurd (both_ways (leb 5 (length f)) short (le-leb 5 (length f) long))
   | inr less ↦ leb-false (21 + length_in f) (length f) less
 ]
 
@@ -126,19 +126,19 @@ next-append key prefix i f x whole =
     let long = whole_long f whole in
     let same : is_malformed (f ++ x) ≡ is_malformed f = malformed-append f x long.0 in
     elim (cases_Bool (is_malformed f)) [
-      inl bad ↦ next_malformed key prefix i (f ++ x) (same ∙ bad) ∙ sym (next_malformed key prefix i f bad)
-    | inr good ↦
-        let len : length_in (f ++ x) ≡ length_in f = length_in-append f x long.0 in
-        let all : is_whole (f ++ x) ≡ true = whole_from (f ++ x) (omega (arith, length-append f x, long.0)) (omega (arith, length-append f x, long.1, len)) in
-        next_whole key prefix i (f ++ x) (same ∙ good) all
-        ∙ ap (λ (j : ℕ). of_message (eqb j 1) (message_in key prefix i (f ++ x))) (mark-append f x (omega (arith, long.0)))
-        ∙ ap (of_message (eqb (get_or f 0 0) 1)) (message_in-append key prefix i f x long.1)
-        ∙ sym (next_whole key prefix i f good whole)
+      | inl bad ↦ next_malformed key prefix i (f ++ x) (same ∙ bad) ∙ sym (next_malformed key prefix i f bad)
+      | inr good ↦
+          let len : length_in (f ++ x) ≡ length_in f = length_in-append f x long.0 in
+          let all : is_whole (f ++ x) ≡ true = whole_from (f ++ x) (omega (arith, length-append f x, long.0)) (omega (arith, length-append f x, long.1, len)) in
+          next_whole key prefix i (f ++ x) (same ∙ good) all
+          ∙ ap (λ (j : ℕ). of_message (eqb j 1) (message_in key prefix i (f ++ x))) (mark-append f x (omega (arith, long.0)))
+          ∙ ap (of_message (eqb (get_or f 0 0) 1)) (message_in-append key prefix i f x long.1)
+          ∙ sym (next_whole key prefix i f good whole)
     ]
 
 -- the front of a frame that is in the grammar
 pub next_front : (key prefix : List ℕ) (i : ℕ) (f x : List ℕ) → is_malformed (f ++ x) ≡ false → length f < 21 + length_in (f ++ x) → next key prefix i f ≡ Stops More
 next_front key prefix i f x good short = next_part key prefix i f (malformed_front f x good) (elim (cases_lt (length f) 5) [
-    inl less ↦ part_short f less
+  | inl less ↦ part_short f less
   | inr long ↦ part_from f (omega (arith, length_in-append f x long))
 ])

@@ -1,16 +1,15 @@
 -- What a call of `feed` does to an opener that has taken some bytes.
-use Rattle.std.proofs.Common.{◌≡◌, ◌⊎◌, ℕ, suc, ◌+◌, ◌-◌, ◌<◌, ◌≤◌, Bool, true, false, cond, ltb, List, [], ◌∷◌, ◌++◌, length, take, drop, Option, Some, None, Ok, Err, refl, sym, ap, ◌∙◌, subst, arith, inl, inr, length-append, length-take, length-drop}
+use Rattle.std.proofs.Common.{◌≡◌, ◌⊎◌, ℕ, ◌+◌, ◌<◌, ◌≤◌, false, cond, ltb, List, [], ◌∷◌, ◌++◌, length, take, drop, Some, None, Ok, Err, refl, sym, ap, ◌∙◌, subst, arith, inl, inr, length-append}
 use Rattle.std.specs.Prelude.{sum_by, Result}
 use Rattle.std.specs.List.{concat}
 use Rattle.std.proofs.Math.Seq.{take-append-add}
-use Rattle.std.proofs.lemmas.List.{append_assoc, append-nil, take_all, drop_all, take-append-drop, length-take-le, nil_from_length, append_cancel_left}
+use Rattle.std.proofs.lemmas.List.{append_assoc, append-nil, take_all, take-append-drop, length-take-le, nil_from_length}
 use Rattle.std.proofs.lemmas.List.Sums.{sum_by-append}
 use Rattle.std.proofs.lemmas.Bool.{cond-true, cond-false, cases_lt, lt-ltb, le-ltb}
-use Rattle.aegis_stream.specs.Unspell.{State, Unspelled, no_more, past_end, is_whole, next, unspell_from, unspell}
-use Rattle.aegis_stream.specs.Unspell.State.{Ended, Trailing, Frame, Tag, More}
-use Rattle.aegis_stream.specs.Unspell.Next.{Stops, Opens}
+use Rattle.aegis_stream.specs.Unspell.{State, Unspelled, no_more, past_end, unspell_from, unspell}
+use Rattle.aegis_stream.specs.Unspell.State.{More}
 use Rattle.aegis_stream.specs.Opening.{Opening, Took, IsFed, IsRefused, Feeds, after, left_in, is_ended, refusal_of}
-use Rattle.aegis_stream.specs.Progress.{Progress, next_in, unspell_in, IsKept, IsOpened, IsStopped, Moves}
+use Rattle.aegis_stream.specs.Progress.{Progress, unspell_in, IsKept, IsOpened, IsStopped, Moves}
 use Rattle.aegis_stream.specs.declared.error.StreamError.{StreamError}
 use Rattle.aegis_stream.specs.declared.fed.Fed.{Fed}
 use Rattle.aegis_stream.proofs.Streams.{unspell_prefix, unspell_short}
@@ -64,11 +63,11 @@ module _ (old : Opening) (taken : List ℕ) (t : Took old taken) (go : old.refus
         count = omega (arith, length-append taken g, t.count, b.count, ap framed all, sum_by-append (λ (m : List ℕ). 21 + length m) so_far ms);
         start = λ _. b.start;
         further = λ _ x.
-          let l : Unspelled = left_in (goes prefix q) x in
-          ap (unspell old.key) (append_assoc taken g x)
-          ∙ b.further x
-          ∙ ap (λ (k : List (List ℕ)). let w : Unspelled = record { messages = k; state = l.state } in w) (sym (append_assoc so_far ms l.messages))
-          ∙ ap (λ (k : List (List ℕ)). after k l) (sym all);
+            let l : Unspelled = left_in (goes prefix q) x in
+            ap (unspell old.key) (append_assoc taken g x)
+            ∙ b.further x
+            ∙ ap (λ (k : List (List ℕ)). let w : Unspelled = record { messages = k; state = l.state } in w) (sym (append_assoc so_far ms l.messages))
+            ∙ ap (λ (k : List (List ℕ)). after k l) (sym all);
       }
 
   -- bytes that don't complete the prefix
@@ -79,11 +78,11 @@ module _ (old : Opening) (taken : List ℕ) (t : Took old taken) (go : old.refus
       let p : List ℕ = old.prefix ++ input in
       let less : length p < 8 = omega (arith, length-append old.prefix input) in
       let left : (o : Opening) (x : List ℕ) → length o.prefix < 8 → left_in o x ≡ unspell o.key (o.prefix ++ x) =
-          λ o x l. cond-true (ltb (length o.prefix) 8) (unspell o.key (o.prefix ++ x)) (cond o.ended (no_more (past_end x)) (unspell_from o.key o.prefix o.frames (o.begun ++ x))) (lt-ltb (length o.prefix) 8 l) in
+      λ o x l. cond-true (ltb (length o.prefix) 8) (unspell o.key (o.prefix ++ x)) (cond o.ended (no_more (past_end x)) (unspell_from o.key o.prefix o.frames (o.begun ++ x))) (lt-ltb (length o.prefix) 8 l) in
       record {
         further = λ x.
-          t.further go (input ++ x)
-          ∙ ap (after so_far) (left old (input ++ x) (omega arith) ∙ ap (unspell old.key) (sym (append_assoc old.prefix input x)) ∙ sym (left (goes p progress) x less));
+            t.further go (input ++ x)
+            ∙ ap (after so_far) (left old (input ++ x) (omega arith) ∙ ap (unspell old.key) (sym (append_assoc old.prefix input x)) ∙ sym (left (goes p progress) x less));
         here = left (goes p progress) [] less ∙ ap (unspell old.key) (append-nil p) ∙ unspell_short old.key p p less;
         frames = omega arith;
         ended = first.2;
@@ -103,15 +102,15 @@ module _ (old : Opening) (taken : List ℕ) (t : Took old taken) (go : old.refus
     unfolding left_in unspell_in
     left_goes q x =
         cond-false (ltb (length whole_prefix) 8) (unspell old.key (whole_prefix ++ x)) (cond q.ended (no_more (past_end x)) (unspell_from old.key whole_prefix q.frames (q.begun ++ x)))
-          (le-ltb (length whole_prefix) 8 (omega (arith, eight)))
+        (le-ltb (length whole_prefix) 8 (omega (arith, eight)))
 
     left_old : (x : List ℕ) → left_in old (front ++ x) ≡ rest_gives progress x
     unfolding left_in unspell_in
     left_old x = elim (cases_lt (length old.prefix) 8) [
-        inl less ↦
+      | inl less ↦
           let first = t.start go less in
           cond-true (ltb (length old.prefix) 8) (unspell old.key (old.prefix ++ (front ++ x))) (cond old.ended (no_more (past_end (front ++ x))) (unspell_from old.key old.prefix old.frames (old.begun ++ (front ++ x))))
-            (lt-ltb (length old.prefix) 8 less)
+          (lt-ltb (length old.prefix) 8 less)
           ∙ ap (unspell old.key) (sym (append_assoc old.prefix front x))
           ∙ unspell_prefix old.key whole_prefix x eight
           ∙ ap (λ (n : ℕ). unspell_from old.key whole_prefix n x) (sym first.1)
@@ -122,9 +121,9 @@ module _ (old : Opening) (taken : List ℕ) (t : Took old taken) (go : old.refus
           let same : old.prefix ≡ whole_prefix = sym (append-nil old.prefix) ∙ ap (λ (l : List ℕ). old.prefix ++ l) (sym none) in
           ap (λ (l : List ℕ). left_in old (l ++ x)) none
           ∙ cond-false (ltb (length old.prefix) 8) (unspell old.key (old.prefix ++ x)) (cond old.ended (no_more (past_end x)) (unspell_from old.key old.prefix old.frames (old.begun ++ x)))
-              (le-ltb (length old.prefix) 8 there)
+          (le-ltb (length old.prefix) 8 there)
           ∙ ap (λ (l : List ℕ). cond old.ended (no_more (past_end x)) (unspell_from old.key l old.frames (old.begun ++ x))) same
-      ]
+    ]
 
     -- what further bytes give
     after_front : (x : List ℕ) → unspell old.key (taken ++ (front ++ x)) ≡ after so_far (rest_gives progress x)
@@ -134,15 +133,15 @@ module _ (old : Opening) (taken : List ℕ) (t : Took old taken) (go : old.refus
         → Brings whole_prefix q (front ++ rest) [] k.state
     kept_brings rest out_old out_new q fed k = record {
       further = λ x.
-        ap (λ (l : List ℕ). unspell old.key (taken ++ l)) (append_assoc front rest x)
-        ∙ after_front (rest ++ x)
-        ∙ ap (after so_far) (in_kept old.key whole_prefix progress rest x k.state k.brings k.due
-            ∙ ap (λ (r : Progress). rest_gives r x) (sym k.now) ∙ sym (left_goes q x));
+          ap (λ (l : List ℕ). unspell old.key (taken ++ l)) (append_assoc front rest x)
+          ∙ after_front (rest ++ x)
+          ∙ ap (after so_far) (in_kept old.key whole_prefix progress rest x k.state k.brings k.due
+          ∙ ap (λ (r : Progress). rest_gives r x) (sym k.now) ∙ sym (left_goes q x));
       here =
-        left_goes q [] ∙ ap (λ (r : Progress). rest_gives r []) k.now
-        ∙ sym (in_kept old.key whole_prefix progress rest [] k.state k.brings k.due)
-        ∙ ap (rest_gives progress) (append-nil rest)
-        ∙ in_stops old.key whole_prefix progress rest k.state k.brings;
+          left_goes q [] ∙ ap (λ (r : Progress). rest_gives r []) k.now
+          ∙ sym (in_kept old.key whole_prefix progress rest [] k.state k.brings k.due)
+          ∙ ap (rest_gives progress) (append-nil rest)
+          ∙ in_stops old.key whole_prefix progress rest k.state k.brings;
       frames = ap (λ (r : Progress). r.frames) k.now ∙ omega arith;
       ended = ap (λ (r : Progress). r.ended) k.now ∙ sym k.ended.1 ∙ k.ended.0;
       count = omega (arith, length-append front rest, length-append old.prefix front, ap (λ (r : Progress). length r.begun) k.now, length-append old.begun rest);
@@ -153,9 +152,9 @@ module _ (old : Opening) (taken : List ℕ) (t : Took old taken) (go : old.refus
         → Brings whole_prefix q (front ++ take fed.taken rest) (k.message ∷ []) (after_frame k.last)
     opened_brings rest out_old out_new q fed k = record {
       further = λ x.
-        ap (λ (l : List ℕ). unspell old.key (taken ++ l)) (append_assoc front g x)
-        ∙ after_front (g ++ x)
-        ∙ ap (after so_far) (opens x ∙ ap (push k.message) (ap (λ (r : Progress). rest_gives r x) (sym k.now) ∙ sym (left_goes q x)));
+          ap (λ (l : List ℕ). unspell old.key (taken ++ l)) (append_assoc front g x)
+          ∙ after_front (g ++ x)
+          ∙ ap (after so_far) (opens x ∙ ap (push k.message) (ap (λ (r : Progress). rest_gives r x) (sym k.now) ∙ sym (left_goes q x)));
       here = left_goes q [] ∙ ap (λ (r : Progress). rest_gives r []) k.now ∙ in_nothing old.key whole_prefix (old.frames + 1) k.last;
       frames = ap (λ (r : Progress). r.frames) k.now;
       ended = ap (λ (r : Progress). r.ended) k.now ∙ sym (is_ended-after_frame k.last);
@@ -202,8 +201,8 @@ module _ (old : Opening) (taken : List ℕ) (t : Took old taken) (go : old.refus
       let b = begins input short in
       let all : take (length input) input ≡ input = take_all (length input) input (omega arith) in
       fed_from (old.prefix ++ input) progress input [] More b input out out (record { taken = length input; written = 0; ended = false })
-          all (omega arith) (λ h. h) refl refl (sym (t.start go (omega arith)).2) (inl (refl, refl))
-          (λ _. ap (λ (v : Unspelled). refusal_of v.state) (result_is (old.prefix ++ input) progress input [] More b))
+      all (omega arith) (λ h. h) refl refl (sym (t.start go (omega arith)).2) (inl (refl, refl))
+      (λ _. ap (λ (v : Unspelled). refusal_of v.state) (result_is (old.prefix ++ input) progress input [] More b))
 
   module _ (front : List ℕ) (eight : length (old.prefix ++ front) ≡ 8) (rest out_old out_new : List ℕ) (q : Progress) where
     abbrev input : List ℕ
@@ -216,9 +215,9 @@ module _ (old : Opening) (taken : List ℕ) (t : Took old taken) (go : old.refus
         let lens : length input ≡ length front + length rest = length-append front rest in
         let all : take (length front + fed.taken) input ≡ input = take_all (length front + fed.taken) input (omega (arith, k.taken)) in
         fed_from (old.prefix ++ front) q input [] k.state b input out_old out_new (record fed { taken = length front + fed.taken })
-            all (omega (arith, k.taken)) (λ h. omega (arith, k.taken)) (ap (λ (n : ℕ). take n out_new) (sym k.written)) (ap (drop fed.written) k.out)
-            (k.ended.1 ∙ ap (λ (r : Progress). r.ended) (sym k.now)) (inl (omega (arith, k.taken), ap (λ (r : Progress). r.frames) k.now))
-            (λ _. ap (λ (v : Unspelled). refusal_of v.state) (result_is (old.prefix ++ front) q input [] k.state b) ∙ k.due)
+        all (omega (arith, k.taken)) (λ h. omega (arith, k.taken)) (ap (λ (n : ℕ). take n out_new) (sym k.written)) (ap (drop fed.written) k.out)
+        (k.ended.1 ∙ ap (λ (r : Progress). r.ended) (sym k.now)) (inl (omega (arith, k.taken), ap (λ (r : Progress). r.frames) k.now))
+        (λ _. ap (λ (v : Unspelled). refusal_of v.state) (result_is (old.prefix ++ front) q input [] k.state b) ∙ k.due)
 
     opened_feeds : (fed : Fed) → IsOpened old.key (old.prefix ++ front) progress q rest out_old out_new fed
         → IsFed old (goes (old.prefix ++ front) q) taken input out_old out_new (record fed { taken = length front + fed.taken })
@@ -228,18 +227,18 @@ module _ (old : Opening) (taken : List ℕ) (t : Took old taken) (go : old.refus
         let g : List ℕ = front ++ take fed.taken rest in
         let is : take (length front + fed.taken) input ≡ g = take-append-add front rest fed.taken in
         fed_from (old.prefix ++ front) q g (k.message ∷ []) (after_frame k.last) b input out_old out_new (record fed { taken = length front + fed.taken })
-            is (omega (arith, k.within)) (λ h. omega (arith, k.some)) (append-nil k.message ∙ sym k.out) k.rest
-            (k.ended ∙ ap (λ (r : Progress). r.ended) (sym k.now))
-            (inr (ap (λ (r : Progress). r.frames) k.now, ap (λ (r : Progress). r.begun) k.now))
-            (λ same. absurd (brings_one b same))
+        is (omega (arith, k.within)) (λ h. omega (arith, k.some)) (append-nil k.message ∙ sym k.out) k.rest
+        (k.ended ∙ ap (λ (r : Progress). r.ended) (sym k.now))
+        (inr (ap (λ (r : Progress). r.frames) k.now, ap (λ (r : Progress). r.begun) k.now))
+        (λ same. absurd (brings_one b same))
       where
         brings_one : Brings (old.prefix ++ front) q (front ++ take fed.taken rest) (k.message ∷ []) (after_frame k.last) → (unspell old.key (taken ++ input)).messages ≡ so_far → ⊥
         brings_one b same =
             let cut : (front ++ take fed.taken rest) ++ drop fed.taken rest ≡ input =
-                append_assoc front (take fed.taken rest) (drop fed.taken rest) ∙ ap (λ (l : List ℕ). front ++ l) (take-append-drop fed.taken rest) in
+            append_assoc front (take fed.taken rest) (drop fed.taken rest) ∙ ap (λ (l : List ℕ). front ++ l) (take-append-drop fed.taken rest) in
             let left : Unspelled = left_in (goes (old.prefix ++ front) q) (drop fed.taken rest) in
             let u : unspell old.key (taken ++ input) ≡ after so_far (after (k.message ∷ []) left) =
-                ap (λ (l : List ℕ). unspell old.key (taken ++ l)) (sym cut) ∙ b.further (drop fed.taken rest) in
+            ap (λ (l : List ℕ). unspell old.key (taken ++ l)) (sym cut) ∙ b.further (drop fed.taken rest) in
             let lens : length so_far ≡ length (so_far ++ (k.message ∷ left.messages)) = ap length (sym same) ∙ ap (λ (v : Unspelled). length v.messages) u in
             omega (arith, lens, length-append so_far (k.message ∷ left.messages))
 
@@ -250,7 +249,7 @@ module _ (old : Opening) (taken : List ℕ) (t : Took old taken) (go : old.refus
     stopped_feeds : (e : StreamError) → IsStopped old.key (old.prefix ++ front) progress q rest out_old out_new e → IsRefused old (stopped e) taken input out_old out_new e
     stopped_feeds e k =
         let u : unspell old.key (taken ++ input) ≡ after so_far (no_more k.state) =
-            after_front front eight rest ∙ ap (after so_far) (in_stops old.key (old.prefix ++ front) progress rest k.state k.brings) in
+        after_front front eight rest ∙ ap (after so_far) (in_stops old.key (old.prefix ++ front) progress rest k.state k.brings) in
         record {
           key = refl;
           stands = refl;
@@ -295,15 +294,15 @@ module _ (old : Opening) (taken : List ℕ) (t : Took old taken) (go : old.refus
       → IsFed old new taken input out_old out_new (record { taken = m + fed.taken; written = fed.written; ended = fed.ended })
   fed_is fed m new len is moves =
       subst (λ (x : List ℕ). IsFed old new taken x out_old out_new (record { taken = m + fed.taken; written = fed.written; ended = fed.ended })) cut
-        (subst (λ (n : ℕ). IsFed old new taken (front ++ rest) out_old out_new (record { taken = n + fed.taken; written = fed.written; ended = fed.ended })) (sym len)
-          (subst (λ (o : Opening). IsFed old o taken (front ++ rest) out_old out_new (record { taken = length front + fed.taken; written = fed.written; ended = fed.ended })) (sym is)
-            (moves_feed old taken t go front eight rest out_old out_new q (Ok fed) moves)))
+      (subst (λ (n : ℕ). IsFed old new taken (front ++ rest) out_old out_new (record { taken = n + fed.taken; written = fed.written; ended = fed.ended })) (sym len)
+      (subst (λ (o : Opening). IsFed old o taken (front ++ rest) out_old out_new (record { taken = length front + fed.taken; written = fed.written; ended = fed.ended })) (sym is)
+      (moves_feed old taken t go front eight rest out_old out_new q (Ok fed) moves)))
 
   pub refused_is : (e : StreamError) → Moves old.key (old.prefix ++ front) p q rest out_old out_new (Err e)
       → IsRefused old (record { key = old.key; prefix = old.prefix; begun = q.begun; frames = q.frames; ended = q.ended; refused = Some e }) taken input out_old out_new e
   refused_is e moves =
       subst (λ (x : List ℕ). IsRefused old (record { key = old.key; prefix = old.prefix; begun = q.begun; frames = q.frames; ended = q.ended; refused = Some e }) taken x out_old out_new e) cut
-        (moves_feed old taken t go front eight rest out_old out_new q (Err e) moves)
+      (moves_feed old taken t go front eight rest out_old out_new q (Err e) moves)
 
 -- a refusal stands
 pub refused_feeds : (old : Opening) (taken : List ℕ) → Took old taken → (input out : List ℕ) (e : StreamError) → old.refused ≡ Some e → IsRefused old old taken input out out e

@@ -1,13 +1,12 @@
 -- What a call's way through the input does to what further bytes give.
-use Rattle.std.proofs.Common.{◌≡◌, ℕ, suc, ◌+◌, ◌<◌, ◌≤◌, Bool, true, false, cond, List, [], ◌∷◌, ◌++◌, length, take, drop, Option, Some, None, refl, sym, ap, ◌∙◌, arith, inl, inr, length-append, length-take, add-one}
-use Rattle.std.proofs.lemmas.List.{append_assoc, append-nil, take-append-drop, length-take-le}
+use Rattle.std.proofs.Common.{◌≡◌, ℕ, suc, ◌+◌, Bool, true, false, cond, List, [], ◌∷◌, ◌++◌, length, None, refl, sym, ap, ◌∙◌, arith, inl, inr}
+use Rattle.std.proofs.lemmas.List.{append_assoc}
 use Rattle.std.proofs.lemmas.Bool.{cond-true, cond-false, cases_Bool}
-use Rattle.aegis_stream.specs.Unspell.{State, Next, Unspelled, is_whole, next, no_more, one_more, past_end, unspell_frames, unspell_from}
-use Rattle.aegis_stream.specs.Unspell.State.{Ended, Trailing, Frame, Tag, More}
+use Rattle.aegis_stream.specs.Unspell.{State, Unspelled, is_whole, next, no_more, one_more, past_end, unspell_frames, unspell_from}
+use Rattle.aegis_stream.specs.Unspell.State.{Ended, Trailing, More}
 use Rattle.aegis_stream.specs.Unspell.Next.{Stops, Opens}
 use Rattle.aegis_stream.specs.Opening.{is_ended, refusal_of}
-use Rattle.aegis_stream.specs.Progress.{Progress, next_in, unspell_in, IsKept, IsOpened, IsStopped}
-use Rattle.aegis_stream.specs.declared.fed.Fed.{Fed}
+use Rattle.aegis_stream.specs.Progress.{Progress, next_in, unspell_in}
 use Rattle.aegis_stream.proofs.Fronts.{next-append}
 use Rattle.aegis_stream.proofs.Unspelled.{from_stops, from_frame}
 
@@ -35,9 +34,9 @@ module _ (key prefix : List ℕ) (p : Progress) where
   -- input that brings no message gives none
   pub in_stops : (x : List ℕ) (s : State) → next_in key prefix p x ≡ Stops s → unspell_in key prefix p x ≡ no_more s
   in_stops x s h = elim (cases_Bool p.ended) [
-      inl done ↦ over x done ∙ ap no_more (same (past_end x) s (sym (next_over x done) ∙ h))
+    | inl done ↦ over x done ∙ ap no_more (same (past_end x) s (sym (next_over x done) ∙ h))
     | inr goes ↦ going x goes ∙ from_stops key prefix p.frames (p.begun ++ x) s (sym (next_going x goes) ∙ h)
-    ]
+  ]
     where
       same : (a b : State) → Stops a ≡ Stops b → a ≡ b
       same a b e = cc
@@ -47,7 +46,7 @@ module _ (key prefix : List ℕ) (p : Progress) where
       → unspell_in key prefix p (x ++ y) ≡ unspell_in key prefix (record p { begun = p.begun ++ x }) y
   unfolding unspell_in
   in_kept x y s h due = elim (cases_Bool p.ended) [
-      inl done ↦
+    | inl done ↦
         let e : x ≡ [] = empty x (same (past_end x) s (sym (next_over x done) ∙ h)) in
         ap (λ (l : List ℕ). unspell_in key prefix p (l ++ y)) e
         ∙ over y done
@@ -55,7 +54,7 @@ module _ (key prefix : List ℕ) (p : Progress) where
     | inr goes ↦ ap (λ (l : List ℕ). cond p.ended (no_more (past_end (x ++ y))) (unspell_from key prefix p.frames l)) (sym (append_assoc p.begun x y))
         ∙ cond-false p.ended (no_more (past_end (x ++ y))) (unspell_from key prefix p.frames ((p.begun ++ x) ++ y)) goes
         ∙ sym (cond-false p.ended (no_more (past_end y)) (unspell_from key prefix p.frames ((p.begun ++ x) ++ y)) goes)
-    ]
+  ]
     where
       same : (a b : State) → Stops a ≡ Stops b → a ≡ b
       same a b e = cc

@@ -1,5 +1,5 @@
 -- A stream, frame by frame.
-use Rattle.std.proofs.Common.{◌≡◌, ℕ, suc, ◌+◌, Bool, true, false, List, [], ◌∷◌, ◌++◌, length, take, drop, refl, sym, ap, ◌∙◌, arith, length-append}
+use Rattle.std.proofs.Common.{◌≡◌, ℕ, suc, ◌+◌, Bool, false, List, [], ◌∷◌, ◌++◌, length, take, drop, refl, sym, ap, ◌∙◌, arith, length-append}
 use Rattle.std.proofs.lemmas.List.{append_assoc, append-nil, take_at, drop_at}
 use Rattle.aegis_stream.specs.Grammar.{frame}
 use Rattle.aegis_stream.specs.Spell.{is_last, frames_from}
@@ -33,11 +33,11 @@ pub spells_more : (s : Sealing) (messages : List (List ℕ)) (written m bytes : 
 spells_more s messages written m bytes last h going is = record {
   count = omega (arith, h.count, length-append messages (m ∷ []));
   stream =
-    ap (λ (l : List ℕ). l ++ bytes) h.stream
-    ∙ ap (λ (b : Bool). (s.prefix ++ frames_from s.key s.prefix 0 b messages) ++ bytes) going
-    ∙ append_assoc s.prefix (frames_from s.key s.prefix 0 false messages) bytes
-    ∙ ap (λ (l : List ℕ). s.prefix ++ (frames_from s.key s.prefix 0 false messages ++ l)) (is ∙ ap (λ (n : ℕ). frame s.key s.prefix n last m) (h.count ∙ from_zero (length messages)))
-    ∙ ap (λ (l : List ℕ). s.prefix ++ l) (sym (frames_push s.key s.prefix 0 last messages m));
+      ap (λ (l : List ℕ). l ++ bytes) h.stream
+      ∙ ap (λ (b : Bool). (s.prefix ++ frames_from s.key s.prefix 0 b messages) ++ bytes) going
+      ∙ append_assoc s.prefix (frames_from s.key s.prefix 0 false messages) bytes
+      ∙ ap (λ (l : List ℕ). s.prefix ++ (frames_from s.key s.prefix 0 false messages ++ l)) (is ∙ ap (λ (n : ℕ). frame s.key s.prefix n last m) (h.count ∙ from_zero (length messages)))
+      ∙ ap (λ (l : List ℕ). s.prefix ++ l) (sym (frames_push s.key s.prefix 0 last messages m));
 }
   where
     from_zero : (n : ℕ) → n ≡ 0 + n

@@ -1,13 +1,12 @@
 -- What the front of a stream gives.
-use Rattle.std.proofs.Common.{◌≡◌, ◌⊎◌, ◌↔◌, ℕ, zero, suc, ◌+◌, ◌-◌, ◌<◌, ◌≤◌, min, Bool, true, false, cond, ltb, List, [], ◌∷◌, ◌++◌, length, take, drop, refl, sym, ap, ◌∙◌, subst, arith, inl, inr, length-append, length-take}
-use Rattle.std.specs.Prelude.{IsTrue}
+use Rattle.std.proofs.Common.{◌≡◌, ◌⊎◌, ℕ, suc, ◌+◌, ◌-◌, ◌<◌, ◌≤◌, Bool, true, false, ltb, List, [], ◌∷◌, ◌++◌, length, take, drop, refl, sym, ap, ◌∙◌, subst, arith, inl, inr, length-append, length-take}
 use Rattle.std.proofs.Math.Seq.{take-append-add}
-use Rattle.std.proofs.lemmas.List.{take_all, take-append-le, append-nil, append_assoc, length-take-le, take_at, drop_at}
+use Rattle.std.proofs.lemmas.List.{take_all, take-append-le, append_assoc, length-take-le, take_at, drop_at}
 use Rattle.std.proofs.lemmas.Bool.{cases_lt, cond-true, cond-false, lt-ltb, le-ltb}
 use Rattle.aegis_stream.specs.Grammar.{is_message_len, frame}
 use Rattle.aegis_stream.specs.Spell.{is_last, frames_from, spell, spelled, AreMessages}
-use Rattle.aegis_stream.specs.Unspell.{State, Unspelled, no_more, one_more, past_end, unspell_from, unspell}
-use Rattle.aegis_stream.specs.Unspell.State.{Ended, Trailing, Frame, Tag, More}
+use Rattle.aegis_stream.specs.Unspell.{Unspelled, no_more, one_more, unspell_from, unspell}
+use Rattle.aegis_stream.specs.Unspell.State.{Ended, More}
 use Rattle.aegis_stream.specs.Laws.{GivesFront}
 use Rattle.aegis_stream.proofs.Frames.{length-frame, frame_opens, less_stops}
 use Rattle.aegis_stream.proofs.Unspelled.{from_stops, from_frame}
@@ -76,12 +75,12 @@ module _ (key prefix : List ℕ) where
         front = refl;
       } in
       subst (λ (x : List ℕ). Gives (m ∷ ms) (f ++ rest) x (unspell_from key prefix i x)) (sym b)
-          (subst (λ (v : Unspelled). Gives (m ∷ ms) (f ++ rest) (take n f) v) (sym u) (inr part))
+      (subst (λ (v : Unspelled). Gives (m ∷ ms) (f ++ rest) (take n f) v) (sym u) (inr part))
 
   more_front : (i : ℕ) (m : List ℕ) (ms : List (List ℕ)) (n : ℕ) → 21 + length m ≤ n → is_message_len (is_last true ms) (length m) ≡ true
       → ((k : ℕ) → Gives (m ∷ ms) (frame key prefix i (is_last true ms) m ++ frames_from key prefix (suc i) true ms)
-          (frame key prefix i (is_last true ms) m ++ take k (frames_from key prefix (suc i) true ms))
-          (one_more (is_last true ms) m (take k (frames_from key prefix (suc i) true ms)) (unspell_from key prefix (suc i) (take k (frames_from key prefix (suc i) true ms)))))
+      (frame key prefix i (is_last true ms) m ++ take k (frames_from key prefix (suc i) true ms))
+      (one_more (is_last true ms) m (take k (frames_from key prefix (suc i) true ms)) (unspell_from key prefix (suc i) (take k (frames_from key prefix (suc i) true ms)))))
       → Fronts i (m ∷ ms) n
   unfolding frames_from
   more_front i m ms n more fits given =
@@ -93,22 +92,22 @@ module _ (key prefix : List ℕ) where
       let b : take n (f ++ rest) ≡ f ++ take k rest = take_past f rest n (omega arith) in
       let u = from_frame key prefix i f (take k rest) last m len (frame_opens key prefix i last m (take k rest) fits) in
       subst (λ (x : List ℕ). Gives (m ∷ ms) (f ++ rest) x (unspell_from key prefix i x)) (sym b)
-          (subst (λ (v : Unspelled). Gives (m ∷ ms) (f ++ rest) (f ++ take k rest) v) (sym u) (given k))
+      (subst (λ (v : Unspelled). Gives (m ∷ ms) (f ++ rest) (f ++ take k rest) v) (sym u) (given k))
 
   front_from : (i : ℕ) (ms : List (List ℕ)) (n : ℕ) → 0 < length ms → AreMessages ms → Fronts i ms n
   unfolding frames_from
   front_from i [] n some are = absurd (omega arith)
   front_from i (m ∷ []) n some are = elim (cases_lt n (21 + length m)) [
-      inl less ↦ less_front i m [] n less are.0
+    | inl less ↦ less_front i m [] n less are.0
     | inr more ↦ more_front i m [] n more are.0 (λ k. after_last (frame key prefix i true m) m k (unspell_from key prefix (suc i) (take k [])))
-    ]
+  ]
   front_from i (m ∷ q ∷ ms) n some are = elim (cases_lt n (21 + length m)) [
-      inl less ↦ less_front i m (q ∷ ms) n less are.0
+    | inl less ↦ less_front i m (q ∷ ms) n less are.0
     | inr more ↦ more_front i m (q ∷ ms) n more are.0 (λ k.
         let rest : List ℕ = frames_from key prefix (suc i) true (q ∷ ms) in
         after_more (frame key prefix i false m) (take k rest) rest m (q ∷ ms) (unspell_from key prefix (suc i) (take k rest))
-            (front_from (suc i) (q ∷ ms) k (omega arith) are.1))
-    ]
+        (front_from (suc i) (q ∷ ms) k (omega arith) are.1))
+  ]
 
   -- with the prefix in front
   pub unspell_short : (b : List ℕ) → length b < 8 → unspell key b ≡ no_more More
@@ -126,7 +125,7 @@ module _ (key prefix : List ℕ) where
   gives_spelled : (ms : List (List ℕ)) (n : ℕ) → length prefix ≡ 8 → 0 < length ms → AreMessages ms
       → Gives ms (spell key prefix ms) (take n (spell key prefix ms)) (unspell key (take n (spell key prefix ms)))
   gives_spelled ms n eight some are = elim (cases_lt n 8) [
-      inl less ↦
+    | inl less ↦
         let w : List ℕ = frames_from key prefix 0 true ms in
         let len : length (take n (prefix ++ w)) ≡ n = length-take-le n (prefix ++ w) (omega (arith, length-append prefix w)) in
         let part : IsPart ms (prefix ++ w) (take n (prefix ++ w)) (no_more More) = record {
@@ -142,8 +141,8 @@ module _ (key prefix : List ℕ) where
         let b : take n (prefix ++ w) ≡ prefix ++ take k w = take_past prefix w n (omega arith) in
         let u : unspell key (prefix ++ take k w) ≡ unspell_from key prefix 0 (take k w) = unspell_prefix (take k w) eight in
         subst (λ (x : List ℕ). Gives ms (prefix ++ w) x (unspell key x)) (sym b)
-            (subst (λ (v : Unspelled). Gives ms (prefix ++ w) (prefix ++ take k w) v) (sym u) (behind ms w (take k w) (unspell_from key prefix 0 (take k w)) (front_from 0 ms k some are)))
-    ]
+        (subst (λ (v : Unspelled). Gives ms (prefix ++ w) (prefix ++ take k w) v) (sym u) (behind ms w (take k w) (unspell_from key prefix 0 (take k w)) (front_from 0 ms k some are)))
+  ]
     where
       behind : (ms : List (List ℕ)) (w x : List ℕ) (u : Unspelled) → Gives ms w x u → Gives ms (prefix ++ w) (prefix ++ x) u
       behind ms w x u (inl all) = inl (record { messages = all.messages; state = all.state; bytes = ap (λ (l : List ℕ). prefix ++ l) all.bytes })
@@ -181,12 +180,13 @@ unfolding frames_from
 frames_go_on key prefix i [] others some = (frames_from key prefix i true others, refl)
 frames_go_on key prefix i (m ∷ ms) others some =
     let on = frames_go_on key prefix (suc i) ms others some in
-    let f : List ℕ = frame key prefix i false m in
-    (on.0,
+    let f : List ℕ = frame key prefix i false m in (
+      on.0,
       ap (λ (b : Bool). frame key prefix i b m ++ frames_from key prefix (suc i) true (ms ++ others)) (goes ms others some)
-      ∙ ap (λ (l : List ℕ). f ++ l) on.1
-      ∙ sym (append_assoc f (frames_from key prefix (suc i) false ms) on.0)
-      ∙ ap (λ (b : Bool). (frame key prefix i b m ++ frames_from key prefix (suc i) false ms) ++ on.0) (sym (never ms)))
+          ∙ ap (λ (l : List ℕ). f ++ l) on.1
+          ∙ sym (append_assoc f (frames_from key prefix (suc i) false ms) on.0)
+          ∙ ap (λ (b : Bool). (frame key prefix i b m ++ frames_from key prefix (suc i) false ms) ++ on.0) (sym (never ms)),
+    )
   where
     goes : (xs ys : List (List ℕ)) → 0 < length ys → is_last true (xs ++ ys) ≡ false
     goes [] [] h = absurd (omega arith)

@@ -1,7 +1,7 @@
 -- Unspelling, frame by frame.
-use Rattle.std.proofs.Common.{◌≡◌, ℕ, zero, suc, ◌+◌, ◌-◌, ◌<◌, ◌≤◌, Bool, true, false, List, [], ◌∷◌, ◌++◌, length, take, drop, refl, sym, ap, ◌∙◌, arith, length-drop}
+use Rattle.std.proofs.Common.{◌≡◌, ℕ, zero, suc, ◌+◌, ◌≤◌, Bool, List, [], ◌∷◌, ◌++◌, length, drop, refl, sym, ap, ◌∙◌, arith, length-drop}
 use Rattle.std.proofs.lemmas.List.{drop_at}
-use Rattle.aegis_stream.specs.Unspell.{State, Next, Unspelled, is_malformed, is_whole, next, no_more, one_more, follow, unspell_frames, unspell_from}
+use Rattle.aegis_stream.specs.Unspell.{State, Next, is_malformed, is_whole, next, no_more, one_more, follow, unspell_frames, unspell_from}
 use Rattle.aegis_stream.specs.Unspell.State.{More}
 use Rattle.aegis_stream.specs.Unspell.Next.{Stops, Opens}
 
@@ -23,10 +23,10 @@ enough (suc n) zero key prefix i [] p q = nothing (suc n) key prefix i
 enough (suc n) zero key prefix i (x ∷ b) p q = absurd (omega arith)
 enough (suc n) (suc k) key prefix i b p q =
     elim (next key prefix i b) as (λ (x : Next). follow (unspell_frames n key prefix (suc i)) b x ≡ follow (unspell_frames k key prefix (suc i)) b x) [
-      Stops s ↦ refl
-    | Opens last m ↦
-        let left : List ℕ = drop (21 + length m) b in
-        ap (one_more last m left) (enough n k key prefix (suc i) left (omega (arith, length-drop (21 + length m) b)) (omega (arith, length-drop (21 + length m) b)))
+      | Stops s ↦ refl
+      | Opens last m ↦
+          let left : List ℕ = drop (21 + length m) b in
+          ap (one_more last m left) (enough n k key prefix (suc i) left (omega (arith, length-drop (21 + length m) b)) (omega (arith, length-drop (21 + length m) b)))
     ]
 
 one_step : (key prefix : List ℕ) (i : ℕ) (b : List ℕ)

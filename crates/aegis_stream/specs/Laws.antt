@@ -2,7 +2,7 @@
 use Rattle.std.specs.Prelude.{◌≡◌, ℕ, ◌<◌, ◌≤◌, ◌⊎◌, ◌↔◌, ◌++◌, List, length, take, slice_index, Bool, true, false}
 use Rattle.aegis_stream.specs.Spell.{spell, spelled, AreMessages}
 use Rattle.aegis_stream.specs.Unspell.{State, unspell}
-use Rattle.aegis_stream.specs.Unspell.State.{Ended, Trailing, Frame, Tag, More}
+use Rattle.aegis_stream.specs.Unspell.State.{Ended, Trailing, More}
 
 -- each item is a byte
 abbrev pub AreBytes : List ℕ → Type 0
@@ -31,4 +31,4 @@ pub record IsStream : Type 0 where
   -- and whatever bytes are unspelled, they begin with the spelling of their messages
   pub back : (key b : List ℕ) → AreBytes b → 8 ≤ length b
       → take (length (spelled key (take 8 b) (is_past (unspell key b).state) (unspell key b).messages)) b
-          ≡ spelled key (take 8 b) (is_past (unspell key b).state) (unspell key b).messages
+      ≡ spelled key (take 8 b) (is_past (unspell key b).state) (unspell key b).messages

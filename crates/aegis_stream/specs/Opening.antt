@@ -1,5 +1,5 @@
 -- What contracts see of an opener (this project's own).
-use Rattle.std.specs.Prelude.{◌≡◌, ℕ, ◌+◌, ◌<◌, ◌≤◌, ◌⊎◌, ◌∷◌, [], ◌++◌, List, length, take, drop, Bool, true, false, sum_by, Option, Some, None, Result, Ok, Err, nat_lt, if◌then◌else◌}
+use Rattle.std.specs.Prelude.{◌≡◌, ℕ, ◌+◌, ◌<◌, ◌≤◌, ◌⊎◌, [], ◌++◌, List, length, take, drop, Bool, true, false, sum_by, Option, Some, None, Result, Ok, Err, nat_lt, if◌then◌else◌}
 use Rattle.std.specs.List.{concat}
 use Rattle.aegis_stream.specs.Unspell.{State, Unspelled, unspell, unspell_from, past_end, no_more}
 use Rattle.aegis_stream.specs.Unspell.State.{Ended, Trailing, Frame, Tag, More}

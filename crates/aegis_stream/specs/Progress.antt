@@ -1,5 +1,5 @@
 -- How far the frames of a stream are opened (this project's own).
-use Rattle.std.specs.Prelude.{◌≡◌, ℕ, ◌+◌, ◌<◌, ◌≤◌, ◌⊎◌, ◌∷◌, [], ◌++◌, List, length, take, drop, Bool, true, false, Some, None, Result, Ok, Err, if◌then◌else◌}
+use Rattle.std.specs.Prelude.{◌≡◌, ℕ, ◌+◌, ◌<◌, ◌≤◌, ◌⊎◌, [], ◌++◌, List, length, take, drop, Bool, true, false, Some, None, Result, Ok, Err, if◌then◌else◌}
 use Rattle.aegis_stream.specs.Unspell.{State, Next, Unspelled, next, no_more, past_end, is_malformed, is_whole, unspell_from}
 use Rattle.aegis_stream.specs.Unspell.Next.{Opens, Stops}
 use Rattle.aegis_stream.specs.Opening.{is_ended, refusal_of}

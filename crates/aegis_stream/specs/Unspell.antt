@@ -1,5 +1,5 @@
 -- The messages of a stream, and how it stands, as far as its bytes go (this project's own).
-use Rattle.std.specs.Prelude.{ℕ, zero, suc, ◌+◌, ◌∷◌, [], ◌++◌, ◌||◌, ◌&&◌, not, List, length, take, drop, slice_index, Bool, true, false, nat_le, nat_lt, nat_eq, if◌then◌else◌, Option, Some, None}
+use Rattle.std.specs.Prelude.{ℕ, zero, suc, ◌+◌, ◌∷◌, [], ◌||◌, ◌&&◌, not, List, length, take, drop, slice_index, Bool, true, false, nat_le, nat_lt, nat_eq, if◌then◌else◌, Option, Some, None}
 use Rattle.std.specs.Int.{w32, from_le_bytes}
 use Rattle.aegis_core.specs.Sealing.{unsealed}
 use Rattle.aegis_core.specs.declared.variant.Variant.TheVariants.{Aegis128L}

@@ -44,7 +44,14 @@ pub fn fits(last: bool, len: usize) -> bool
 }
 
 // Writes a frame.
-pub fn write(key: &[u8; 16], prefix: &[u8; 8], number: u64, last: bool, piece: &[u8], out: &mut [u8])
+pub fn write(
+    key: &[u8; 16],
+    prefix: &[u8; 8],
+    number: u64,
+    last: bool,
+    piece: &[u8],
+    out: &mut [u8],
+)
     requires piece { length piece.now ≤ 65536 }
     requires room { length out.old ≡ 21 + length piece.now }
     ensures { out.new ≡ frame key.now prefix.now number last piece.now }

@@ -73,7 +73,14 @@ impl Sealer {
             return Err(StreamError::Finished);
         }
         let len = FRAME_BYTES + piece.len();
-        write(&self.key, &self.prefix, self.frames, last, piece, &mut out[..len]);
+        write(
+            &self.key,
+            &self.prefix,
+            self.frames,
+            last,
+            piece,
+            &mut out[..len],
+        );
         self.frames += 1;
         self.ended = last;
         Ok(len)

@@ -10,7 +10,10 @@ const FIGURES: [(&[usize], &str); 3] = [
         &[5, 40, 3],
         "010c17222d38434e0005000000911b5db61fd2a3000ead5bf1d927fa8d7c95d72905002800000040f1310801f611d6ecc3217f66094dfe6d2db80c19240081c672ce2865b0f4be23760f573d00a9ead307f4c4dcd69e872d3c6bc9066ac4780103000000479b88cc99ba076623f81ea6ee8782546a3386",
     ),
-    (&[0], "010c17222d38434e0100000000038ab509ff659bb1edd205037a95e95c"),
+    (
+        &[0],
+        "010c17222d38434e0100000000038ab509ff659bb1edd205037a95e95c",
+    ),
     (
         &[1],
         "010c17222d38434e010100000091e98703fb8774c53c6a8ef2607cbc21e7",
@@ -41,7 +44,9 @@ fn input_of_three_lengths_comes_back(rt: HostRuntime) -> Result<(), Fail> {
         let bytes = joined(rt.alloc(), &sealed(rt.alloc(), &PREFIX, lens)?)?;
         assert_eq!(rt; bytes.len(), len);
         let back = open_in_steps(rt.alloc(), &bytes, 4096)?;
-        assert!(rt; back.released == message(rt.alloc(), lens[0])? && back.ended && back.refused.is_none());
+        assert!(rt;
+            back.released == message(rt.alloc(), lens[0])? && back.ended && back.refused.is_none()
+        );
     }
     Ok(())
 }
@@ -53,15 +58,23 @@ fn a_stream_that_was_cut_or_changed_gives_no_more(rt: HostRuntime) -> Result<(),
     assert!(rt; cut.released.len() == 65536 && !cut.ended && cut.refused.is_none());
     bytes.push(0)?;
     let longer = open_in_steps(rt.alloc(), &bytes, 65587)?;
-    assert!(rt; longer.released.len() == 65536 && longer.ended && longer.refused == Some(StreamError::Trailing));
+    assert!(rt;
+        longer.released.len() == 65536
+            && longer.ended
+            && longer.refused == Some(StreamError::Trailing)
+    );
     *bytes.get_mut(8).ok_or("short")? = 2;
     let marked = open_in_steps(rt.alloc(), &bytes, 65587)?;
-    assert!(rt; marked.released.is_empty() && !marked.ended && marked.refused == Some(StreamError::Frame));
+    assert!(rt;
+        marked.released.is_empty() && !marked.ended && marked.refused == Some(StreamError::Frame)
+    );
     Ok(())
 }
 
 #[test]
-fn every_cut_of_three_frames_gives_the_messages_of_its_whole_frames(rt: HostRuntime) -> Result<(), Fail> {
+fn every_cut_of_three_frames_gives_the_messages_of_its_whole_frames(
+    rt: HostRuntime,
+) -> Result<(), Fail> {
     let bytes = joined(rt.alloc(), &sealed(rt.alloc(), &PREFIX, &[5, 40, 3])?)?;
     assert_eq!(rt; bytes.len(), 119);
     let mut messages = message(rt.alloc(), 5)?;
@@ -77,8 +90,14 @@ fn every_cut_of_three_frames_gives_the_messages_of_its_whole_frames(rt: HostRunt
         };
         for step in [1, 7, 119] {
             let back = open_in_steps(rt.alloc(), bytes.get(..cut).ok_or("short")?, step)?;
-            assert!(rt; back.released.as_slice() == messages.get(..len).ok_or("short")?, "cut at {cut}");
-            assert!(rt; back.frames == frames && back.ended == (cut == 119) && back.refused.is_none(), "cut at {cut}");
+            assert!(rt;
+                back.released.as_slice() == messages.get(..len).ok_or("short")?,
+                "cut at {cut}"
+            );
+            assert!(rt;
+                back.frames == frames && back.ended == (cut == 119) && back.refused.is_none(),
+                "cut at {cut}"
+            );
         }
     }
     Ok(())
@@ -116,7 +135,10 @@ fn frames_in_another_order_are_refused(rt: HostRuntime) -> Result<(), Fail> {
 fn a_frame_of_another_stream_is_refused(rt: HostRuntime) -> Result<(), Fail> {
     let mut parts = sealed(rt.alloc(), &PREFIX, &[5, 40, 3])?;
     let others = sealed(rt.alloc(), &[8; 8], &[5, 40, 3])?;
-    *parts.get_mut(2).ok_or("no such part")? = others.get(2).ok_or("no such part")?.to_vec(rt.alloc())?;
+    *parts.get_mut(2).ok_or("no such part")? = others
+        .get(2)
+        .ok_or("no such part")?
+        .to_vec(rt.alloc())?;
     let back = open_in_steps(rt.alloc(), &joined(rt.alloc(), &parts)?, 7)?;
     assert!(rt; back.released == message(rt.alloc(), 5)? && back.frames == 1);
     assert_eq!(rt; back.refused, Some(StreamError::InvalidTag));
@@ -130,7 +152,12 @@ const REFUSED: [(&[u8], StreamError); 6] = [
     (&[0, 1, 0, 1, 0], StreamError::Frame),
     (&[1, 1, 0, 1, 0], StreamError::Frame),
     (&[1, 0, 0, 0, 1], StreamError::Frame),
-    (&[1, 0, 0, 0, 0, 0, 0, 0, 0, 0, 0, 0, 0, 0, 0, 0, 0, 0, 0, 0, 0], StreamError::InvalidTag),
+    (
+        &[
+            1, 0, 0, 0, 0, 0, 0, 0, 0, 0, 0, 0, 0, 0, 0, 0, 0, 0, 0, 0, 0,
+        ],
+        StreamError::InvalidTag,
+    ),
 ];
 
 #[test]
@@ -162,7 +189,10 @@ fn a_stream_is_sealed_to_its_end(rt: HostRuntime) -> Result<(), Fail> {
     assert_eq!(rt; sealer.seal(b"", true, &mut out), Ok(21));
     let frame = out;
     assert_eq!(rt; sealer.frames(), 1);
-    assert_eq!(rt; sealer.seal(b"more", true, &mut out), Err(StreamError::Finished));
+    assert_eq!(rt;
+        sealer.seal(b"more", true, &mut out),
+        Err(StreamError::Finished)
+    );
     assert!(rt; out == frame && sealer.frames() == 1);
     Ok(())
 }

@@ -5,7 +5,9 @@ use std::alloc::Global;
 use std::test::Fail;
 
 /// The key of all streams here: byte i is 7 i + 3.
-pub const KEY: [u8; 16] = [3, 10, 17, 24, 31, 38, 45, 52, 59, 66, 73, 80, 87, 94, 101, 108];
+pub const KEY: [u8; 16] = [
+    3, 10, 17, 24, 31, 38, 45, 52, 59, 66, 73, 80, 87, 94, 101, 108,
+];
 
 /// The prefix of most: byte i is 11 i + 1.
 pub const PREFIX: [u8; 8] = [1, 12, 23, 34, 45, 56, 67, 78];

@@ -18,8 +18,14 @@ fn texts(rt: HostRuntime) -> Result<(), Fail> {
         assert_eq!(rt; *error as usize, i + 1);
     }
     let sealer = Sealer::new(&KEY, &PREFIX);
-    assert_eq!(rt; format!(in rt.alloc(); "{sealer:?}")?.as_str(), "Sealer { .. }");
+    assert_eq!(rt;
+        format!(in rt.alloc(); "{sealer:?}")?.as_str(),
+        "Sealer { .. }"
+    );
     let opener = Opener::new(rt.alloc(), &KEY)?;
-    assert_eq!(rt; format!(in rt.alloc(); "{opener:?}")?.as_str(), "Opener { .. }");
+    assert_eq!(rt;
+        format!(in rt.alloc(); "{opener:?}")?.as_str(),
+        "Opener { .. }"
+    );
     Ok(())
 }

@@ -1,4 +1,4 @@
-use Rattle.std.proofs.Common.{◌≡◌, ℕ, ◌+◌, List, ◌++◌, length, drop, refl, subst, ◌∙◌, arith}
+use Rattle.std.proofs.Common.{◌≡◌, ℕ, ◌+◌, ◌++◌, length, drop, refl, subst, ◌∙◌}
 use Rattle.std.proofs.lemmas.List.{length-take-le}
 use Rattle.aegis_stream.specs.Sealing.{Sealing, IsSealed}
 use Rattle.aegis_stream.proofs.Spelled.{sealed_is}
@@ -14,4 +14,4 @@ returns-clause-sealed c =
     let new : Sealing = record { key = u.key; prefix = u.prefix; frames = u.frames + 1; ended = c.args.last } in
     let len : length c.write.new.out ≡ n = c.write.auto.out ∙ length-take-le n out c.requires.room in
     subst (λ (s : Sealing). IsSealed s new m c.args.last out (c.write.new.out ++ drop n out) n) c.self.view_is
-        (sealed_is old m c.args.last c.write.new.out out n c.if-self.false refl len c.write.ensures)
+    (sealed_is old m c.args.last c.write.new.out out n c.if-self.false refl len c.write.ensures)

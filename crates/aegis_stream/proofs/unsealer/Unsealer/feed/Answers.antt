@@ -1,4 +1,4 @@
-use Rattle.std.proofs.Common.{◌≡◌, ℕ, ◌+◌, ◌-◌, ◌≤◌, min, true, false, List, length, take, drop, Result, refl, sym, ap, ◌∙◌, subst, inl, inr, arith}
+use Rattle.std.proofs.Common.{◌≡◌, ℕ, ◌+◌, true, List, take, sym, ap, ◌∙◌, subst, inl, inr, arith}
 use Rattle.aegis_stream.specs.Heads.{Reads, ReadsHead}
 use Rattle.aegis_stream.specs.Unspell.{is_malformed}
 use Rattle.aegis_stream.specs.Progress.{Progress, IsBegun, IsKept, IsOpened, IsStopped, Moves}
@@ -14,7 +14,7 @@ returns-then-self c =
     let u = c.self.inside in
     let o = c.args.out.now in
     subst (λ (p : Progress). Moves c.args.key.now c.args.prefix.now p p c.args.input.now o o c.past_end.result) c.self.view_is
-        (over_moves c.args.key.now c.args.prefix.now u.pending u.frames u.ended c.if-self.true c.args.input.now o c.past_end.result c.past_end.ensures.ok c.past_end.ensures.refused)
+    (over_moves c.args.key.now c.args.prefix.now u.pending u.frames u.ended c.if-self.true c.args.input.now o c.past_end.result c.past_end.ensures.ok c.past_end.ensures.refused)
 
 -- the bytes begun, and those that complete the head
 headed-none : (c : In-Ok-None) → Headed c.self.inside.pending c.args.input.now c.fill-front.new.self c.fill-front.result
@@ -40,7 +40,7 @@ invariant_of-self c =
     let u = c.self.inside in
     let r = rw c.in-Ok-None.field-0-is at (read-none (goal.at.invariant_of-self c).In-Ok-None) in
     short_begun c.args.key.now c.args.prefix.now u.frames u.ended c.if-self.false u.pending c.args.input.now c.fill-front.new.self c.fill-front.result
-        (headed-none (goal.at.invariant_of-self c).In-Ok-None) r.0 r.1
+    (headed-none (goal.at.invariant_of-self c).In-Ok-None) r.0 r.1
 
 pub returns-in-Ok-None : goal.returns-in-Ok-None
 returns-in-Ok-None c =
@@ -49,9 +49,9 @@ returns-in-Ok-None c =
     let new : Progress = record { begun = c.fill-front.new.self; frames = u.frames; ended = u.ended } in
     let r = rw c.in-Ok-None.field-0-is at (read-none (goal.at.returns-in-Ok-None c).In-Ok-None) in
     let k = short_kept c.args.key.now c.args.prefix.now u.frames u.ended c.if-self.false u.pending c.args.input.now c.fill-front.new.self c.fill-front.result
-        (headed-none (goal.at.returns-in-Ok-None c).In-Ok-None) o r.0 r.1 in
+    (headed-none (goal.at.returns-in-Ok-None c).In-Ok-None) o r.0 r.1 in
     inl (subst (λ (p : Progress). IsKept c.args.key.now c.args.prefix.now p new c.args.input.now o o c.kept.result) c.self.view_is
-        (subst (λ (f : Fed). IsKept c.args.key.now c.args.prefix.now (record { begun = u.pending; frames = u.frames; ended = u.ended }) new c.args.input.now o o f) (sym c.kept.ensures) k))
+    (subst (λ (f : Fed). IsKept c.args.key.now c.args.prefix.now (record { begun = u.pending; frames = u.frames; ended = u.ended }) new c.args.input.now o o f) (sym c.kept.ensures) k))
 
 pub returns-in-Err : goal.returns-in-Err
 returns-in-Err c =
@@ -60,16 +60,16 @@ returns-in-Err c =
     let new : Progress = record { begun = c.truncate.new.self; frames = u.frames; ended = u.ended } in
     let bad : is_malformed c.fill-front.new.self ≡ true = ap is_malformed (sym c.bytes.ensures) ∙ c.in-Err.ensures.malformed in
     let k = malformed_stops c.args.key.now c.args.prefix.now u.frames u.ended c.if-self.false u.pending c.args.input.now c.fill-front.new.self c.fill-front.result
-        (headed-err (goal.at.returns-in-Err c).In-Err) c.truncate.new.self o bad (c.truncate.ensures ∙ ap (λ (n : ℕ). take n c.fill-front.new.self) c.len-begun.ensures.len) in
+    (headed-err (goal.at.returns-in-Err c).In-Err) c.truncate.new.self o bad (c.truncate.ensures ∙ ap (λ (n : ℕ). take n c.fill-front.new.self) c.len-begun.ensures.len) in
     subst (λ (p : Progress). IsStopped c.args.key.now c.args.prefix.now p new c.args.input.now o o c.in-Err.refusal) c.self.view_is
-        (subst (λ (e : StreamError). IsStopped c.args.key.now c.args.prefix.now (record { begun = u.pending; frames = u.frames; ended = u.ended }) new c.args.input.now o o e) (sym c.in-Err.ensures.refused) k)
+    (subst (λ (e : StreamError). IsStopped c.args.key.now c.args.prefix.now (record { begun = u.pending; frames = u.frames; ended = u.ended }) new c.args.input.now o o e) (sym c.in-Err.ensures.refused) k)
 
 pub invariant_of-self-then-len-head : goal.invariant_of-self-then-len-head
 invariant_of-self-then-len-head c =
     let u = c.self.inside in
     let p = (goal.at.invariant_of-self-then-len-head c).In-Ok-Some in
     part_begun c.args.key.now c.args.prefix.now u.frames u.ended c.if-self.false u.pending c.args.input.now c.fill-front.new.self c.fill-front.result
-        (headed p) c.in-Ok-Some.head (read p) c.fill.new.self c.fill.result c.fill.ensures.count c.fill.ensures.bytes (omega (arith, c.len.ensures.len))
+    (headed p) c.in-Ok-Some.head (read p) c.fill.new.self c.fill.result c.fill.ensures.count c.fill.ensures.bytes (omega (arith, c.len.ensures.len))
 
 pub returns-then-len-head : goal.returns-then-len-head
 returns-then-len-head c =
@@ -78,16 +78,16 @@ returns-then-len-head c =
     let p = (goal.at.returns-then-len-head c).In-Ok-Some in
     let new : Progress = record { begun = c.fill.new.self; frames = u.frames; ended = u.ended } in
     let k = part_kept c.args.key.now c.args.prefix.now u.frames u.ended c.if-self.false u.pending c.args.input.now c.fill-front.new.self c.fill-front.result
-        (headed p) c.in-Ok-Some.head (read p) c.fill.new.self c.fill.result c.fill.ensures.count c.fill.ensures.bytes o (omega (arith, c.len.ensures.len)) in
+    (headed p) c.in-Ok-Some.head (read p) c.fill.new.self c.fill.result c.fill.ensures.count c.fill.ensures.bytes o (omega (arith, c.len.ensures.len)) in
     inl (subst (λ (q : Progress). IsKept c.args.key.now c.args.prefix.now q new c.args.input.now o o c.kept-then-len-head.result) c.self.view_is
-        (subst (λ (f : Fed). IsKept c.args.key.now c.args.prefix.now (record { begun = u.pending; frames = u.frames; ended = u.ended }) new c.args.input.now o o f) (sym c.kept-then-len-head.ensures) k))
+    (subst (λ (f : Fed). IsKept c.args.key.now c.args.prefix.now (record { begun = u.pending; frames = u.frames; ended = u.ended }) new c.args.input.now o o f) (sym c.kept-then-len-head.ensures) k))
 
 pub open-requires-clause-whole : goal.open-requires-clause-whole
 open-requires-clause-whole c =
     let u = c.self.inside in
     let p = (goal.at.open-requires-clause-whole c).In-Ok-Some in
     whole_len c.args.key.now c.args.prefix.now u.frames u.ended c.if-self.false u.pending c.args.input.now c.fill-front.new.self c.fill-front.result
-        (headed p) c.in-Ok-Some.head (read p) c.fill.new.self c.fill.result c.fill.ensures.count c.fill.ensures.bytes (omega (arith, c.len.ensures.len))
+    (headed p) c.in-Ok-Some.head (read p) c.fill.new.self c.fill.result c.fill.ensures.count c.fill.ensures.bytes (omega (arith, c.len.ensures.len))
 
 pub invariant_of-self-then-not-open : goal.invariant_of-self-then-not-open
 invariant_of-self-then-not-open c =
@@ -95,8 +95,8 @@ invariant_of-self-then-not-open c =
     let p = (goal.at.invariant_of-self-then-not-open c).In-Ok-Some in
     let e = c.if-not-open.ensures in
     wrong_begun c.args.key.now c.args.prefix.now u.frames u.ended c.if-self.false u.pending c.args.input.now c.fill-front.new.self c.fill-front.result
-        (headed p) c.in-Ok-Some.head (read p) c.fill.new.self c.fill.result c.fill.ensures.count c.fill.ensures.bytes (omega (arith, c.len.ensures.len))
-        c.open.new.self c.truncate-then-not-open.new.self e.count e.head (c.truncate-then-not-open.ensures ∙ ap (λ (n : ℕ). take n c.open.new.self) c.len-begun.ensures.len)
+    (headed p) c.in-Ok-Some.head (read p) c.fill.new.self c.fill.result c.fill.ensures.count c.fill.ensures.bytes (omega (arith, c.len.ensures.len))
+    c.open.new.self c.truncate-then-not-open.new.self e.count e.head (c.truncate-then-not-open.ensures ∙ ap (λ (n : ℕ). take n c.open.new.self) c.len-begun.ensures.len)
 
 pub returns-then-not-open : goal.returns-then-not-open
 returns-then-not-open c =
@@ -105,9 +105,9 @@ returns-then-not-open c =
     let e = c.if-not-open.ensures in
     let new : Progress = record { begun = c.truncate-then-not-open.new.self; frames = u.frames; ended = u.ended } in
     let k = wrong_stops c.args.key.now c.args.prefix.now u.frames u.ended c.if-self.false u.pending c.args.input.now c.fill-front.new.self c.fill-front.result
-        (headed p) c.in-Ok-Some.head (read p) c.fill.new.self c.fill.result c.fill.ensures.count c.fill.ensures.bytes (omega (arith, c.len.ensures.len))
-        c.nonce-nonce.result c.open.new.self c.truncate-then-not-open.new.self c.args.out.now c.open.new.out c.nonce-nonce.ensures e.none e.count
-        (c.truncate-then-not-open.ensures ∙ ap (λ (n : ℕ). take n c.open.new.self) c.len-begun.ensures.len) e.out in
+    (headed p) c.in-Ok-Some.head (read p) c.fill.new.self c.fill.result c.fill.ensures.count c.fill.ensures.bytes (omega (arith, c.len.ensures.len))
+    c.nonce-nonce.result c.open.new.self c.truncate-then-not-open.new.self c.args.out.now c.open.new.out c.nonce-nonce.ensures e.none e.count
+    (c.truncate-then-not-open.ensures ∙ ap (λ (n : ℕ). take n c.open.new.self) c.len-begun.ensures.len) e.out in
     subst (λ (q : Progress). IsStopped c.args.key.now c.args.prefix.now q new c.args.input.now c.args.out.now c.open.new.out error.InvalidTag) c.self.view_is k
 
 pub invariant_of-self-2 : goal.invariant_of-self-2
@@ -123,7 +123,7 @@ returns c =
     let new : List ℕ → Progress = λ (l : List ℕ). record { begun = l; frames = u.frames + 1; ended = d.last } in
     let fed : Fed = record { taken = c.fill-front.result + c.fill.result; written = d.len; ended = d.last } in
     let k = right_opens c.args.key.now c.args.prefix.now u.frames u.ended c.if-self.false u.pending c.args.input.now c.fill-front.new.self c.fill-front.result
-        (headed p) d r c.fill.new.self c.fill.result c.fill.ensures.count c.fill.ensures.bytes (omega (arith, c.len.ensures.len))
-        c.nonce-nonce.result c.args.out.now c.open.new.out c.nonce-nonce.ensures e.message (omega (arith, r.most, c.requires.room, c.open.auto.out)) e.rest in
+    (headed p) d r c.fill.new.self c.fill.result c.fill.ensures.count c.fill.ensures.bytes (omega (arith, c.len.ensures.len))
+    c.nonce-nonce.result c.args.out.now c.open.new.out c.nonce-nonce.ensures e.message (omega (arith, r.most, c.requires.room, c.open.auto.out)) e.rest in
     inr (subst (λ (q : Progress). IsOpened c.args.key.now c.args.prefix.now q (new c.open.new.self) c.args.input.now c.args.out.now c.open.new.out fed) c.self.view_is
-        (subst (λ (l : List ℕ). IsOpened c.args.key.now c.args.prefix.now (record { begun = u.pending; frames = u.frames; ended = u.ended }) (new l) c.args.input.now c.args.out.now c.open.new.out fed) (sym e.emptied) k))
+    (subst (λ (l : List ℕ). IsOpened c.args.key.now c.args.prefix.now (record { begun = u.pending; frames = u.frames; ended = u.ended }) (new l) c.args.input.now c.args.out.now c.open.new.out fed) (sym e.emptied) k))
