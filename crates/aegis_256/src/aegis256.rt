@@ -1,4 +1,6 @@
 //! AEGIS-256, one lane (AEGIS specification, "The AEGIS-256 Algorithm").
+//!
+//! The calls and their contracts stand at `Cipher`, `Encryptor`, `Decryptor` and `Mac` of `aegis_core`.
 
 ghost use Rattle.std.specs.Prelude.{refl};
 ghost use Rattle.aegis_core.specs.declared.variant.Variant.TheVariants.{Aegis256};
@@ -35,7 +37,7 @@ pub type Decryptor<'a, const TAG_BYTES: usize> = aegis_core::Decryptor<
     TAG_BYTES,
 >;
 
-/// The MAC of a text that comes in pieces, whose values are this project's own.
+/// The MAC of a text that comes in pieces, by the AEGIS specification.
 pub type Aegis256Mac<const TAG_BYTES: usize> = Mac<Kind, SoftLanes256, 32, TAG_BYTES>;
 
 /// What tells Aegis256 from the other ciphers.

@@ -1,4 +1,6 @@
-//! AEGIS-256X4, four lanes (AEGIS specification, "Parallel Modes", in this project's own profile).
+//! AEGIS-256X4, four lanes (AEGIS specification, "Parallel Modes").
+//!
+//! The calls and their contracts stand at `Cipher`, `Encryptor`, `Decryptor` and `Mac` of `aegis_core`.
 
 ghost use Rattle.std.specs.Prelude.{refl};
 ghost use Rattle.aegis_core.specs.declared.variant.Variant.TheVariants.{Aegis256X4};

@@ -1,4 +1,4 @@
--- Sealing, unsealing and the MAC, over what a family of AEGIS ciphers gives (AEGIS specification; the MAC is this project's own).
+-- Sealing, unsealing and the MAC, over what a family of AEGIS ciphers gives (AEGIS specification; the MAC of two and four lanes is this project's own).
 use Rattle.std.specs.Prelude.{ℕ, ◌+◌, ◌*◌, ◌/◌, List, [], ◌∷◌, ◌++◌, length, take, replicate, fold, Option, Some, None, if◌then◌else◌}
 use Rattle.std.specs.Str.{bytes_eq}
 use Rattle.aes_spec.specs.Bytes.{xor_bytes}
@@ -59,7 +59,8 @@ sealed_by f t key nonce ad m =
     let s = keyed f key nonce ad in
     (cipher_text f s m, f.finalise t (8 * length ad) (8 * length m) (absorbed f s m))
 
--- the MAC of a text, with the tag's length in bits in the second place (this project's own)
+-- the MAC of a text, with the tag's length in bits in the second place: the specification's with one lane, this
+-- project's own with more
 abbrev pub mac_by : Family → ℕ → List ℕ → List ℕ → List ℕ → List ℕ
 mac_by f t key nonce text = f.finalise t (8 * length text) (8 * t) (keyed f key nonce text)
 

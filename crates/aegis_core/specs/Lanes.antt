@@ -1,7 +1,7 @@
 -- What both families of AEGIS share. A block is a list of 16 bytes, a lane a list of eight blocks
 -- (AEGIS-128 family) or of six (AEGIS-256 family), and a state the list of its lanes. With one lane
 -- this is AEGIS-128L or AEGIS-256; two and four lanes are the parallel modes of the AEGIS
--- specification, in this project's own profile.
+-- specification.
 use Rattle.std.specs.Prelude.{◌≡◌, ◌⊎◌, ℕ, zero, suc, ◌-◌, List, [], ◌∷◌, ◌++◌, replicate, fold, slice_index_or}
 use Rattle.std.specs.Int.{w64, to_le_bytes}
 use Rattle.aes_spec.specs.Bytes.{xor_bytes}

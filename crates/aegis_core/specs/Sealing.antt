@@ -1,4 +1,4 @@
--- Sealing, unsealing, MAC and stream of each cipher (AEGIS specification; the MAC is this project's own).
+-- Sealing, unsealing, MAC and stream of each cipher (AEGIS specification; the MAC of two and four lanes is this project's own).
 use Rattle.std.specs.Prelude.{◌≡◌, ℕ, List, [], replicate, Option, Some, None}
 use Rattle.aegis_core.specs.Family.{Family, family_128, family_256, sealed_by, unsealed_by, mac_by}
 use Rattle.aegis_core.specs.declared.variant.Variant.{Variant}
@@ -46,7 +46,7 @@ Unseals v t key nonce ad c tag None = (m : List ℕ) → (seal v t key nonce ad 
 unfoldable pub unsealed : Variant → ℕ → List ℕ → List ℕ → List ℕ → List ℕ → List ℕ → Option (List ℕ)
 unsealed v t key nonce ad c tag = unsealed_by (family_of v) t key nonce ad c tag
 
--- the MAC of a text, a tag of t bytes (this project's own: the second length is the tag's)
+-- the MAC of a text, a tag of t bytes (the second length is the tag's; with two and four lanes this project's own)
 unfoldable pub mac : Variant → ℕ → List ℕ → List ℕ → List ℕ → List ℕ
 mac v t key nonce text = mac_by (family_of v) t key nonce text
 

@@ -12,9 +12,9 @@ use crate::pieces::Pieces;
 use std::fmt;
 use std::marker::PhantomData;
 
-/// The MAC of a text that comes in pieces. However it was cut, the tag is that of the whole. The values
-/// are this project's own: the text is absorbed as associated data is, and the last updates take in its
-/// length and the tag's, in bits.
+/// The MAC of a text that comes in pieces. However it was cut, the tag is that of the whole: the text is
+/// absorbed as associated data is, and the last updates take in its length and the tag's, in bits. With one
+/// lane it is the AEGIS specification's MAC, with two and four lanes its values are this project's own.
 #[derive(Drop)]
 pub struct Mac<K, S, const KEY_BYTES: usize, const TAG_BYTES: usize> {
     pieces: Pieces<S>,

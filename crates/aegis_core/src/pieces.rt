@@ -229,7 +229,7 @@ impl<S: LaneState> Pieces<S> {
         self.ended().finalise(8 * self.ad_len, 8 * self.total, tag);
     }
 
-    /// The MAC of the text that was taken in, of 16 or 32 bytes (this project's own), on lanes that began
+    /// The MAC of the text that was taken in, of 16 or 32 bytes, on lanes that began
     /// without associated data.
     pub fn mac_tag(self, tag: &mut [u8])
         requires { (length tag.old ≡ 16) ⊎ (length tag.old ≡ 32) }

@@ -5,7 +5,7 @@ use Rattle.std.proofs.Math.Seq.{take-append-add}
 use Rattle.std.proofs.lemmas.Bool.{cases_lt}
 use Rattle.std.specs.Result.{OnOk, OnErr}
 use Rattle.std.specs.Option.{option_map}
-use Rattle.raf.specs.Storage.{Torn, Cut, Told, resized, spliced}
+use Rattle.raf_io.specs.Storage.{Torn, Cut, Told, resized, spliced}
 use Rattle.raf.specs.Loaded.{LeavesHeader}
 
 pub resized_cut : (n : ℕ) (b : List ℕ) → n ≤ length b → resized n b ≡ take n b

@@ -15,8 +15,8 @@ use Rattle.raf.specs.Stepped.{Holds, with_size, message, stored, laid}
 use Rattle.raf.specs.declared.format.header.Header.{Header}
 use Rattle.raf.specs.declared.command.Command.TheVariants.{Write}
 use Rattle.raf.specs.declared.command.Reply.TheVariants.{Wrote, Refused}
-use Rattle.raf.specs.declared.errors.ErrorKind.{ErrorKind}
-use Rattle.raf.specs.declared.errors.ErrorKind.TheVariants.{Io, AuthenticationFailed, Rng, Unbuilt}
+use Rattle.raf_io.specs.declared.errors.ErrorKind.{ErrorKind}
+use Rattle.raf_io.specs.declared.errors.ErrorKind.TheVariants.{Io, AuthenticationFailed, Rng, Unbuilt}
 use Rattle.raf.proofs.Headers.{layout_one}
 use Rattle.raf.proofs.Sums.{sum_one, record_len_one}
 use Rattle.raf.proofs.Wrote.{size_after_is, change_is, write_touches, write_count, write_free}

@@ -7,7 +7,7 @@ use Rattle.std.specs.Int.{w32, w64, from_le_bytes}
 use Rattle.std.proofs.lemmas.List.{take-take, drop-take, drop_more, take_all}
 use Rattle.std.proofs.lemmas.Bool.{cases_lt}
 use Rattle.std.proofs.lemmas.Nat.{div_below, le-div, from_le_bytes-to_le_bytes_4, from_le_bytes-to_le_bytes_8}
-use Rattle.raf.specs.Storage.{ReadsFrom}
+use Rattle.raf_io.specs.Storage.{ReadsFrom}
 use Rattle.raf.specs.Cipher.{Cipher}
 use Rattle.raf.specs.Header.{Says, Tagged, head_of, header_tag, between}
 use Rattle.raf.specs.File.{chunk_count, layout_len}

@@ -10,7 +10,7 @@ use Rattle.raf.specs.Stepped.{Holds, stored}
 use Rattle.raf.specs.declared.format.header.Header.{Header}
 use Rattle.raf.specs.declared.command.Command.TheVariants.{Write}
 use Rattle.raf.specs.declared.command.Reply.TheVariants.{Wrote, Refused}
-use Rattle.raf.specs.declared.errors.ErrorKind.TheVariants.{AuthenticationFailed, Unbuilt}
+use Rattle.raf_io.specs.declared.errors.ErrorKind.TheVariants.{AuthenticationFailed, Unbuilt}
 use Rattle.raf.proofs.Chunks.{chunks_one, chunks_none}
 use Rattle.raf.proofs.Wrote.{write_past, write_over, write_there, write_empty, write_missing, write_needs}
 

@@ -2,7 +2,7 @@
 use Rattle.std.proofs.Common.{◌≡◌, ◌≢◌, inl, inr, ℕ, ◌+◌, ◌-◌, ◌<◌, ◌≤◌, max, List, [], ◌∷◌, ◌++◌, length, take, drop, replicate, Option, Some, refl, sym, ◌∙◌, ap, arith, length-append, length-take, length-drop, take-append-drop, append_assoc}
 use Rattle.std.proofs.lemmas.List.{take-take, drop-take, take_at, drop_at, append-nil, take_all, drop_all}
 use Rattle.std.proofs.lemmas.Bool.{cases_lt, cases_eq}
-use Rattle.raf.specs.Storage.{resized, spliced}
+use Rattle.raf_io.specs.Storage.{resized, spliced}
 use Rattle.raf.specs.Cipher.{Cipher, IsLawful}
 use Rattle.raf.specs.Header.{between, head_of, header_tag, sealed_header, InRange, Says, Tagged}
 use Rattle.raf.specs.File.{File, IsFile, beside, sealed, layout_len}

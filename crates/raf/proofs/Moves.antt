@@ -4,11 +4,11 @@ use Rattle.std.specs.Prelude.{nat_eq}
 use Rattle.std.proofs.lemmas.Bool.{cases_eq}
 use Rattle.std.proofs.lemmas.Bool.Decides.{nat_tests}
 use Rattle.raf.specs.Loaded.{Stored}
-use Rattle.raf.specs.Counts.{Rose}
-use Rattle.raf.specs.Source.{Takes, TakesAtMost}
+use Rattle.counts.specs.Counts.{Rose}
+use Rattle.raf_io.specs.Source.{Takes, TakesAtMost}
 use Rattle.raf.specs.Outside.{Outside, Kept, Quiet, Caused, Moved}
-use Rattle.raf.specs.declared.errors.ErrorKind.{ErrorKind}
-use Rattle.raf.specs.declared.errors.ErrorKind.TheVariants.{Io, InvalidArgument, AuthenticationFailed, AlreadyExists, NotFound, Overflow, MerkleNotEnabled, CorruptedChunk, Rng, Hash, Broken, OutOfMemory, Unbuilt}
+use Rattle.raf_io.specs.declared.errors.ErrorKind.{ErrorKind}
+use Rattle.raf_io.specs.declared.errors.ErrorKind.TheVariants.{Io, InvalidArgument, AuthenticationFailed, AlreadyExists, NotFound, Overflow, MerkleNotEnabled, CorruptedChunk, Rng, Hash, Broken, OutOfMemory, Unbuilt}
 
 pub moved_same : (a b : Outside) → b ≡ a → Moved a b 0 0 0 0
 moved_same a b same = subst (λ (x : Outside). Moved a x 0 0 0 0) (sym same) (record {

@@ -2,7 +2,7 @@
 use Rattle.std.proofs.Common.{◌≡◌, inl, inr, ℕ, ◌^◌, ◌<◌, ◌≤◌, max, List, [], ◌∷◌, length, Option, Some, Result, Ok, Err, refl, sym, ◌∙◌, subst, arith}
 use Rattle.std.specs.Result.{IsErrAnd}
 use Rattle.std.specs.Prelude.{◌⊎◌}
-use Rattle.raf.specs.Source.{Takes}
+use Rattle.raf_io.specs.Source.{Takes}
 use Rattle.raf.specs.Cipher.{Cipher, IsLawful}
 use Rattle.raf.specs.File.{File, IsFile, file_layout}
 use Rattle.raf.specs.Concern.{no_limit}
@@ -11,13 +11,13 @@ use Rattle.raf.specs.Outside.{Outside, Kept, Quiet, Moved}
 use Rattle.raf.specs.Session.{WhyNotOpened, WhyRefused, OpeningFault, Refusal, Whole, Faulted, CutShort, AllShaped, Meets, begun, read_total}
 use Rattle.raf.specs.Stepped.{Holds, file_of}
 use Rattle.raf.specs.Ended.{Ended, Ran}
-use Rattle.raf.specs.Kinds.{kind_of}
+use Rattle.raf_io.specs.Kinds.{kind_of}
 use Rattle.raf.specs.declared.format.header.Header.{Header}
 use Rattle.raf.specs.declared.command.Command.{Command}
 use Rattle.raf.specs.declared.command.Reply.{Reply}
-use Rattle.raf.specs.declared.errors.Error.{Error}
-use Rattle.raf.specs.declared.errors.ErrorKind.{ErrorKind}
-use Rattle.raf.specs.declared.errors.ErrorKind.TheVariants.{Io, InvalidArgument, AuthenticationFailed, AlreadyExists, NotFound, Overflow, MerkleNotEnabled, CorruptedChunk, Rng, Hash, Broken, OutOfMemory, Unbuilt}
+use Rattle.raf_io.specs.declared.errors.Error.{Error}
+use Rattle.raf_io.specs.declared.errors.ErrorKind.{ErrorKind}
+use Rattle.raf_io.specs.declared.errors.ErrorKind.TheVariants.{Io, InvalidArgument, AuthenticationFailed, AlreadyExists, NotFound, Overflow, MerkleNotEnabled, CorruptedChunk, Rng, Hash, Broken, OutOfMemory, Unbuilt}
 use Rattle.raf.proofs.Opened.{opens_held}
 use Rattle.raf.proofs.Moves.{quiet_then, caused_later}
 

@@ -10,7 +10,7 @@ use Rattle.raf.specs.Stepped.{Stepped}
 use Rattle.raf.specs.declared.format.header.Header.{Header}
 use Rattle.raf.specs.declared.command.Command.TheVariants as command
 use Rattle.raf.specs.declared.command.Reply.TheVariants.{Size, Refused}
-use Rattle.raf.specs.declared.errors.ErrorKind.TheVariants.{AuthenticationFailed, MerkleNotEnabled, Unbuilt}
+use Rattle.raf_io.specs.declared.errors.ErrorKind.TheVariants.{AuthenticationFailed, MerkleNotEnabled, Unbuilt}
 use Rattle.raf.proofs.Chunks.{none_asked}
 use Rattle.raf.proofs.Moves.{moved_same, quiet_same, kept_same}
 use Rattle.raf.proofs.Still.{stepped_still}

@@ -10,7 +10,7 @@ use Rattle.raf.specs.Concern.{no_limit, needed, none_missing}
 use Rattle.raf.specs.Apply.{apply, bytes_between}
 use Rattle.raf.specs.declared.command.Command.TheVariants.{Read}
 use Rattle.raf.specs.declared.command.Reply.TheVariants.{Bytes, Refused}
-use Rattle.raf.specs.declared.errors.ErrorKind.TheVariants.{AuthenticationFailed}
+use Rattle.raf_io.specs.declared.errors.ErrorKind.TheVariants.{AuthenticationFailed}
 use Rattle.raf.proofs.Chunks.{none_asked}
 use Rattle.raf.proofs.Valid.{fitting_is}
 

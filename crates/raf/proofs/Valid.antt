@@ -9,7 +9,7 @@ use Rattle.raf.specs.Concern.{fits, needed, none_missing, is_merkle}
 use Rattle.raf.specs.Apply.{answer, changed, apply_built}
 use Rattle.raf.specs.declared.command.Command.{Command}
 use Rattle.raf.specs.declared.command.Reply.TheVariants.{Refused}
-use Rattle.raf.specs.declared.errors.ErrorKind.TheVariants.{AuthenticationFailed, Overflow, MerkleNotEnabled}
+use Rattle.raf_io.specs.declared.errors.ErrorKind.TheVariants.{AuthenticationFailed, Overflow, MerkleNotEnabled}
 
 module _ (limit : Option ℕ) (F : File) (c : Command) where
   -- its numbers fit, and it asks for no tree that isn't there: the chunks decide

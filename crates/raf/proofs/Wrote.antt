@@ -3,7 +3,7 @@ use Rattle.std.proofs.Common.{◌≡◌, ℕ, ◌+◌, ◌*◌, ◌^◌, ◌<◌
 use Rattle.std.specs.Prelude.{nat_lt, nat_le, is_some, unwrap_or}
 use Rattle.std.proofs.lemmas.List.{append-nil, drop_all}
 use Rattle.std.proofs.lemmas.Bool.Decides.{nat_tests}
-use Rattle.raf.specs.Storage.{resized}
+use Rattle.raf_io.specs.Storage.{resized}
 use Rattle.raf.specs.File.{File, chunk_count, chunk_len, layout_len}
 use Rattle.raf.specs.Due.{Due, is_barred}
 use Rattle.raf.specs.Due.Due.{Exactly}
@@ -13,7 +13,7 @@ use Rattle.raf.specs.Image.{is_change}
 use Rattle.raf.specs.Stepped.{message, stored}
 use Rattle.raf.specs.declared.command.Command.TheVariants.{Write}
 use Rattle.raf.specs.declared.command.Reply.TheVariants.{Wrote, Refused}
-use Rattle.raf.specs.declared.errors.ErrorKind.TheVariants.{AuthenticationFailed, Unbuilt}
+use Rattle.raf_io.specs.declared.errors.ErrorKind.TheVariants.{AuthenticationFailed, Unbuilt}
 use Rattle.raf.proofs.Bytes.{length-resized}
 use Rattle.raf.proofs.Headers.{layout_one}
 use Rattle.raf.proofs.Chunks.{count_one, none_asked}

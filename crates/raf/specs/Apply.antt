@@ -1,6 +1,6 @@
 -- What commands do to a file, and what is due to them (this project's own).
 use Rattle.std.specs.Prelude.{ℕ, zero, suc, ◌+◌, ◌-◌, ◌*◌, min, max, ◌&&◌, not, if◌then◌else◌, nat_lt, nat_le, nat_eq, List, [], ◌∷◌, ◌++◌, length, take, drop, slice_index, Option, Some, None, unwrap_or}
-use Rattle.raf.specs.Storage.{resized}
+use Rattle.raf_io.specs.Storage.{resized}
 use Rattle.raf.specs.File.{File, chunk_count, chunk_len, file_layout}
 use Rattle.raf.specs.Concern.{is_touched, is_resized, written_size, needed, fits, none_missing, valid, is_unbuilt}
 use Rattle.raf.specs.Due.{Due}
@@ -8,8 +8,8 @@ use Rattle.raf.specs.Due.Due.{Exactly, Merkle}
 use Rattle.raf.specs.declared.command.Command.{Command}
 use Rattle.raf.specs.declared.command.Command.TheVariants as command
 use Rattle.raf.specs.declared.command.Reply.TheVariants.{Bytes, Wrote, Done, Size, Refused}
-use Rattle.raf.specs.declared.errors.ErrorKind.{ErrorKind}
-use Rattle.raf.specs.declared.errors.ErrorKind.TheVariants.{AuthenticationFailed, Overflow, MerkleNotEnabled, Unbuilt}
+use Rattle.raf_io.specs.declared.errors.ErrorKind.{ErrorKind}
+use Rattle.raf_io.specs.declared.errors.ErrorKind.TheVariants.{AuthenticationFailed, Overflow, MerkleNotEnabled, Unbuilt}
 
 -- the bytes of a range, chunk by chunk
 abbrev pub bytes_between : ℕ → ℕ → ℕ → ℕ → List (Option (List ℕ)) → List ℕ

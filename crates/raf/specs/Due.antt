@@ -2,7 +2,7 @@
 use Rattle.std.specs.Prelude.{◌≡◌, Bool, true, false, List, [], ◌∷◌, ⊤}
 use Rattle.raf.specs.declared.command.Reply.{Reply}
 use Rattle.raf.specs.declared.command.Reply.TheVariants.{Refused}
-use Rattle.raf.specs.declared.errors.ErrorKind.TheVariants.{Overflow, MerkleNotEnabled, Unbuilt}
+use Rattle.raf_io.specs.declared.errors.ErrorKind.TheVariants.{Overflow, MerkleNotEnabled, Unbuilt}
 
 -- exactly this reply, or a mark that the hasher's tree decides it
 pub data Due : Type 0 where

@@ -1,6 +1,6 @@
 -- A run of commands on an open file: what the code of a session hands from the commands to the whole (this project's own).
 use Rattle.std.specs.Prelude.{◌≡◌, ℕ, ◌*◌, List, [], ◌∷◌, length, Some, ◌⊎◌}
-use Rattle.raf.specs.Source.{Takes}
+use Rattle.raf_io.specs.Source.{Takes}
 use Rattle.raf.specs.Cipher.{Cipher}
 use Rattle.raf.specs.File.{File}
 use Rattle.raf.specs.Due.{AllAnswer}

@@ -1,8 +1,8 @@
 -- Why a record was not opened, and what a write leaves (this project's own).
 use Rattle.std.specs.Prelude.{◌≡◌, ℕ, ◌+◌, ◌≤◌, List, length, take, Option, Some, if◌then◌else◌, nat_eq}
 use Rattle.raf.specs.Outside.{Outside, Quiet, Caused, Moved}
-use Rattle.raf.specs.declared.errors.ErrorKind.{ErrorKind}
-use Rattle.raf.specs.declared.errors.ErrorKind.TheVariants.{Io, AuthenticationFailed}
+use Rattle.raf_io.specs.declared.errors.ErrorKind.{ErrorKind}
+use Rattle.raf_io.specs.declared.errors.ErrorKind.TheVariants.{Io, AuthenticationFailed}
 
 -- the storage failed, or the record is the sealed form of no chunk
 abbrev pub Loaded : ErrorKind → Outside → Outside → Type 0

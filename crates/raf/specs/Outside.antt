@@ -1,8 +1,8 @@
 -- The storage and the random source of a file, as their traits' meanings tell of them, and how they move (this project's own).
 use Rattle.std.specs.Prelude.{◌≡◌, ℕ, ◌+◌, ◌≤◌, max, List, Option}
-use Rattle.raf.specs.Counts.{Rose}
-use Rattle.raf.specs.declared.errors.ErrorKind.{ErrorKind}
-use Rattle.raf.specs.declared.errors.ErrorKind.TheVariants.{Io, Rng}
+use Rattle.counts.specs.Counts.{Rose}
+use Rattle.raf_io.specs.declared.errors.ErrorKind.{ErrorKind}
+use Rattle.raf_io.specs.declared.errors.ErrorKind.TheVariants.{Io, Rng}
 
 -- what the storage holds and what is durable, where it tells; its counts; what the random source has left, where it tells; its counts
 pub record Outside : Type 0 where

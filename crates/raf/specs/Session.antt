@@ -1,7 +1,7 @@
 -- What a session answers (this project's own).
 use Rattle.std.specs.Prelude.{◌≡◌, ℕ, ◌+◌, ◌-◌, ◌*◌, ◌^◌, ◌<◌, ◌≤◌, min, max, false, if◌then◌else◌, nat_eq, List, [], ◌∷◌, ◌++◌, length, take, drop, slice_index, Option, Some, Result, IfOk, IfErr, ⊤, ◌⊎◌}
-use Rattle.raf.specs.Counts.{Rose}
-use Rattle.raf.specs.Source.{Takes, TakesAtMost}
+use Rattle.counts.specs.Counts.{Rose}
+use Rattle.raf_io.specs.Source.{Takes, TakesAtMost}
 use Rattle.raf.specs.Cipher.{Cipher}
 use Rattle.raf.specs.Header.{Says, Tagged}
 use Rattle.raf.specs.File.{File, Opens, IsSealedFor, record_at, chunk_count, layout_len}
@@ -11,15 +11,15 @@ use Rattle.raf.specs.Concern.{size_after, touched, needed, sum_where, no_limit}
 use Rattle.raf.specs.Apply.{apply, due_to, file_after, longest}
 use Rattle.raf.specs.Image.{is_change, traced, bytes_after, asked_by, asked_in, changes_in, traffic_in}
 use Rattle.raf.specs.Outside.{Outside, Kept, Quiet, Caused, Moved}
-use Rattle.raf.specs.Kinds.{kind_of}
+use Rattle.raf_io.specs.Kinds.{kind_of}
 use Rattle.raf.specs.declared.format.header.Header.{Header}
 use Rattle.raf.specs.declared.command.Command.{Command}
 use Rattle.raf.specs.declared.command.Command.TheVariants as command
 use Rattle.raf.specs.declared.command.Reply.{Reply}
 use Rattle.raf.specs.declared.command.Reply.TheVariants.{Bytes, Wrote, Size, Refused}
-use Rattle.raf.specs.declared.errors.Error.{Error}
-use Rattle.raf.specs.declared.errors.ErrorKind.{ErrorKind}
-use Rattle.raf.specs.declared.errors.ErrorKind.TheVariants.{Io, AuthenticationFailed, MerkleNotEnabled, Rng, OutOfMemory, Unbuilt}
+use Rattle.raf_io.specs.declared.errors.Error.{Error}
+use Rattle.raf_io.specs.declared.errors.ErrorKind.{ErrorKind}
+use Rattle.raf_io.specs.declared.errors.ErrorKind.TheVariants.{Io, AuthenticationFailed, MerkleNotEnabled, Rng, OutOfMemory, Unbuilt}
 
 -- how many bytes a command reads at most
 abbrev pub read_len_of : Command → ℕ

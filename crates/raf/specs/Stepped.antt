@@ -1,7 +1,7 @@
 -- One command on an open file: what the code of a session hands from one command to the next (this project's own).
 use Rattle.std.specs.Prelude.{◌≡◌, ℕ, zero, suc, ◌+◌, max, true, false, List, [], ◌∷◌, ◌++◌, length, take, drop, Option, Some, replicate}
-use Rattle.raf.specs.Storage.{resized}
-use Rattle.raf.specs.Source.{Takes, TakesAtMost}
+use Rattle.raf_io.specs.Storage.{resized}
+use Rattle.raf_io.specs.Source.{Takes, TakesAtMost}
 use Rattle.raf.specs.Cipher.{Cipher}
 use Rattle.raf.specs.Header.{sealed_header}
 use Rattle.raf.specs.File.{File, IsFile, beside, sealed, record_at, chunk_count, file_layout}
@@ -17,7 +17,7 @@ use Rattle.raf.specs.declared.command.Command.{Command}
 use Rattle.raf.specs.declared.command.Command.TheVariants as command
 use Rattle.raf.specs.declared.command.Reply.{Reply}
 use Rattle.raf.specs.declared.command.Reply.TheVariants.{Refused}
-use Rattle.raf.specs.declared.errors.ErrorKind.{ErrorKind}
+use Rattle.raf_io.specs.declared.errors.ErrorKind.{ErrorKind}
 
 -- the message that a record is sealed for, computed
 abbrev pub unsealed : Cipher → List ℕ → List ℕ → ℕ → List ℕ → Option (List ℕ)

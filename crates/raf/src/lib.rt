@@ -3,30 +3,26 @@
 
 mod command;
 mod data;
-mod errors;
 pub mod format;
 mod loading;
-mod memory;
 mod opening;
 mod outside;
 mod overwriting;
 mod serving;
-mod source;
 mod stepping;
-mod storage;
 mod storing;
 #[cfg(test)]
 mod tests;
 #[cfg(test)]
 mod torn;
-pub mod tree;
+/// The hashers of a file's tree.
+pub mod tree {
+    pub use raf_tree::{HashFault, MerkleHasher, NoMerkle};
+}
 
 pub use command::{Command, Replies, Reply};
 pub use data::Data;
-pub use errors::{Error, ErrorKind, Reason};
 pub use format::{Aegis128L, Algorithm, Header, write_header};
-pub use memory::MemIo;
+pub use raf_io::{Error, ErrorKind, MemIo, RafIo, RafRng, Reason, VecRng};
+pub use raf_tree::{FakeHasher, HashFault, MerkleHasher, NoMerkle, Sha256Hasher};
 pub use serving::{RafBuilder, SessionEnd, session};
-pub use source::{RafRng, VecRng};
-pub use storage::RafIo;
-pub use tree::{HashFault, MerkleHasher, NoMerkle};

@@ -4,14 +4,12 @@ ghost use Rattle.raf.specs.Cipher.{cipher_of};
 ghost use Rattle.raf.specs.Stepped.{unsealed};
 ghost use Rattle.raf.specs.Outside.{Kept, Quiet, Moved};
 ghost use Rattle.raf.specs.Loaded.{Loaded};
-ghost use Rattle.raf.specs.Kinds.{kind_of};
+ghost use Rattle.raf_io.specs.Kinds.{kind_of};
 
-use crate::errors::{Error, ErrorKind};
 use crate::format::{Algorithm, nonce_len, open_record};
 use crate::opening::OpenFile;
 use crate::outside::Ports;
-use crate::source::RafRng;
-use crate::storage::RafIo;
+use raf_io::{Error, ErrorKind, RafIo, RafRng};
 
 // Reads the first record into a place of its length, and opens it.
 fn load_record<A: Algorithm, I: RafIo, R: RafRng>(

@@ -4,15 +4,13 @@ ghost use Rattle.raf.specs.Cipher.{cipher_of};
 ghost use Rattle.raf.specs.File.{IsFile};
 ghost use Rattle.raf.specs.Outside.{Kept, Quiet, Moved};
 ghost use Rattle.raf.specs.Session.{WhyNotOpened, OpeningFault};
-ghost use Rattle.raf.specs.Kinds.{kind_of};
+ghost use Rattle.raf_io.specs.Kinds.{kind_of};
 
-use crate::errors::Error;
 use crate::format::{
     Algorithm, Header, algorithm_id, chunk_key, header_tag_fits, nonce_len, parse_header,
 };
 use crate::outside::Ports;
-use crate::source::RafRng;
-use crate::storage::RafIo;
+use raf_io::{Error, RafIo, RafRng};
 use std::alloc::Global;
 
 /// What an open file keeps: its keys, its header and room for a record.

@@ -1,14 +1,12 @@
 //! The storage and the random source of a file, seen together.
 ghost use Rattle.std.specs.Prelude.{◌≡◌, ◌+◌, ◌^◌, ◌<◌, ◌≤◌, max, ⊤, length, Some, IfOk, IfErr, OnOk, OnErr};
 ghost use Rattle.std.specs.Option.{option_map};
-ghost use Rattle.raf.specs.Storage.{spliced, Told, ReadsFrom, Torn, IsLengthOf, Strays};
-ghost use Rattle.raf.specs.Source.{Takes, TakesAtMost};
+ghost use Rattle.raf_io.specs.Storage.{spliced, Told, ReadsFrom, Torn, IsLengthOf, Strays};
+ghost use Rattle.raf_io.specs.Source.{Takes, TakesAtMost};
 ghost use Rattle.raf.specs.Outside.{Kept, Quiet, Caused, Moved};
-ghost use Rattle.raf.specs.Kinds.{kind_of};
+ghost use Rattle.raf_io.specs.Kinds.{kind_of};
 
-use crate::errors::{Error, ErrorKind};
-use crate::source::RafRng;
-use crate::storage::RafIo;
+use raf_io::{Error, ErrorKind, RafIo, RafRng};
 use std::marker::Model;
 
 /// A storage and a source of random bytes.

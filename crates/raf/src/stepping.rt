@@ -5,14 +5,12 @@ ghost use Rattle.raf.specs.Stepped.{Stepped, room_for};
 
 use crate::command::{Command, Reply};
 use crate::data::Data;
-use crate::errors::ErrorKind;
 use crate::format::{Algorithm, nonce_len};
 use crate::loading::load;
 use crate::opening::OpenFile;
 use crate::outside::Ports;
-use crate::source::RafRng;
-use crate::storage::RafIo;
 use crate::storing::put;
+use raf_io::{ErrorKind, RafIo, RafRng};
 
 /// One command, with room for what it reads.
 pub fn step<A: Algorithm, I: RafIo, R: RafRng>(

@@ -1,22 +1,20 @@
 //! A record is made in place and written.
 ghost use Rattle.std.specs.Prelude.{◌≡◌, ◌≢◌, ◌+◌, ◌-◌, ◌^◌, ◌<◌, ◌≤◌, max, List, ℕ, ◌++◌, length, take, drop, replicate, Some, Option, IfOk, IfErr, OnOk, OnErr};
-ghost use Rattle.raf.specs.Storage.{spliced};
-ghost use Rattle.raf.specs.Source.{Takes, TakesAtMost};
+ghost use Rattle.raf_io.specs.Storage.{spliced};
+ghost use Rattle.raf_io.specs.Source.{Takes, TakesAtMost};
 ghost use Rattle.raf.specs.Cipher.{cipher_of};
 ghost use Rattle.raf.specs.Header.{sealed_header};
 ghost use Rattle.raf.specs.File.{IsFile, sealed};
 ghost use Rattle.raf.specs.Stepped.{message, with_size, laid};
 ghost use Rattle.raf.specs.Outside.{Quiet, Caused, Moved};
 ghost use Rattle.raf.specs.Loaded.{LeavesHeader, Spared, Stored};
-ghost use Rattle.raf.specs.Kinds.{kind_of};
+ghost use Rattle.raf_io.specs.Kinds.{kind_of};
 
-use crate::errors::{Error, ErrorKind};
 use crate::format::{Algorithm, Header, header_bytes, nonce_len, seal_record};
 use crate::opening::OpenFile;
 use crate::outside::Ports;
 use crate::overwriting::overwrite;
-use crate::source::RafRng;
-use crate::storage::RafIo;
+use raf_io::{Error, ErrorKind, RafIo, RafRng};
 
 // Zeros from an index on.
 fn clear_from(bytes: &mut [u8], from: usize)

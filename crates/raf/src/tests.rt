@@ -1,11 +1,11 @@
 //! Sessions over AEGIS-128L, in memory: with failures at each call in turn, with damaged bytes and over a storage that tears.
 use crate::format::{Aegis128L, Header, write_header};
 use crate::torn::TornIo;
-use crate::tree::{MerkleHasher, NoMerkle};
 use crate::{
     Command, Data, Error, ErrorKind, MemIo, RafBuilder, RafIo, Reason, Replies, Reply, SessionEnd,
     VecRng, session,
 };
+use raf_tree::{MerkleHasher, NoMerkle};
 use std::alloc::Global;
 use std::process::Abort;
 use std::test::Fail;
@@ -241,7 +241,7 @@ fn a_torn_write_is_the_last_reply(rt: HostRuntime) -> Result<(), Fail> {
     let alloc = rt.alloc();
     let commands = script(alloc, 0)?;
     for tears in 0..2 {
-        let io = TornIo::new(empty_file(alloc)?, tears);
+        let io = TornIo::new(alloc, empty_file(alloc)?, tears);
         let builder = RafBuilder::<Aegis128L, VecRng, NoMerkle>::with_rng(source(alloc)?);
         let SessionEnd {
             outcome,

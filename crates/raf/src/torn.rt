@@ -1,16 +1,17 @@
 //! A storage for tests that tears one of its writes: half of the bytes are written, and then it fails.
 ghost use Rattle.std.specs.Prelude.{◌≡◌, ◌+◌, ◌^◌, ◌<◌, ◌≤◌, length, Some, []};
-ghost use Rattle.raf.specs.Storage.{Torn};
-ghost use Rattle.raf.specs.Counts.{raised};
+ghost use Rattle.raf_io.specs.Storage.{Torn};
+ghost use Rattle.raf_io.specs.Memory.{memory_bytes};
+ghost use Rattle.counts.specs.Counts.{raised};
 
-use crate::memory::splice;
-use crate::storage::RafIo;
+use raf_io::{MemIo, RafIo};
+use std::alloc::Global;
 use std::io;
 
 /// These bytes. The write of this number, counted from 0, is torn.
 #[derive(Drop)]
 pub struct TornIo {
-    pub bytes: Vec<u8>,
+    pub memory: MemIo,
     pub tears: u64,
     pub writes: u64,
     pub faults: u64,
@@ -21,9 +22,9 @@ pub struct TornIo {
 }
 
 impl TornIo {
-    pub fn new(bytes: Vec<u8>, tears: u64) -> TornIo {
+    pub fn new(alloc: Global, bytes: Vec<u8>, tears: u64) -> TornIo {
         TornIo {
-            bytes,
+            memory: MemIo::new(alloc, bytes, Vec::new(alloc)),
             tears,
             writes: 0,
             faults: 0,
@@ -45,16 +46,16 @@ impl TornIo {
 }
 
 // Half of the bytes, where there is memory for them.
-fn tear(bytes: &mut Vec<u8>, at: usize, new: &[u8])
-    requires { at + length new.now < 2 ^ 64 }
-    ensures { Torn at (length new.now) bytes.old.items bytes.new.items }
+fn tear(memory: &mut MemIo, offset: u64, new: &[u8])
+    requires { offset + length new.now < 2 ^ 64 }
+    ensures { Torn offset (length new.now) (memory_bytes memory.old) (memory_bytes memory.new) }
 {
     let half = new.len() / 2;
-    let _ = splice(bytes, at, &new[..half]);
+    let _ = memory.write_at(&new[..half], offset);
 }
 
 impl RafIo for TornIo {
-    ghost bytes = { λ t. Some t.bytes.items };
+    ghost bytes = { λ t. Some (memory_bytes t.memory) };
 
     ghost durable = { λ _. Some [] };
 
@@ -72,11 +73,11 @@ impl RafIo for TornIo {
         let end = offset + buf.len() as u64;
         self.reach = self.reach.max(end);
         self.traffic = self.traffic.saturating_add(buf.len() as u64);
-        if end > self.bytes.len() as u64 {
+        if end > self.memory.bytes().len() as u64 {
             self.strays = self.strays.saturating_add(1);
             return Err(self.fault());
         }
-        buf.copy_from_slice(&self.bytes[offset as usize..end as usize]);
+        buf.copy_from_slice(&self.memory.bytes()[offset as usize..end as usize]);
         Ok(())
     }
 
@@ -87,17 +88,17 @@ impl RafIo for TornIo {
         let number = self.writes;
         self.writes = self.writes.saturating_add(1);
         if number == self.tears {
-            tear(&mut self.bytes, offset as usize, buf);
+            tear(&mut self.memory, offset, buf);
             return Err(self.fault());
         }
-        if splice(&mut self.bytes, offset as usize, buf).is_err() {
+        if self.memory.write_at(buf, offset).is_err() {
             return Err(self.fault());
         }
         Ok(())
     }
 
     fn get_size(&mut self) -> io::Result<u64> {
-        Ok(self.bytes.len() as u64)
+        Ok(self.memory.bytes().len() as u64)
     }
 
     fn set_size(&mut self, size: u64) -> io::Result<()> {

@@ -5,7 +5,7 @@ use Rattle.raf.specs.Outside.{Outside}
 use Rattle.raf.specs.Session.{Meets}
 use Rattle.raf.specs.declared.command.Command.{Command}
 use Rattle.raf.specs.declared.command.Reply.{Reply}
-use Rattle.raf.specs.declared.errors.Error.{Error}
+use Rattle.raf_io.specs.declared.errors.Error.{Error}
 use Rattle.aegis_core.specs.declared.variant.Variant.{Variant}
 use Rattle.raf_tool.specs.Run.{fresh}
 

@@ -1,11 +1,12 @@
 -- What a run of the program answers, and when. Words, statuses and texts are this project's own.
 use Rattle.std.specs.Prelude.{◌≡◌, ◌⊎◌, ◌∷◌, [], ◌<◌, ◌≤◌, ◌-◌, ◌^◌, ◌==◌, ℕ, Bool, true, false, List, length, codes, Option, Some, None, Result, Ok, Err, IfSome, if◌then◌else◌, bytes_eq, slice_get}
 use Rattle.std.specs.Io.KnownBytes.{Appends, IsAtEnd}
-use Rattle.raf.specs.Counts.{Rose}
-use Rattle.raf.specs.Kinds.{is_fault, kind_of}
-use Rattle.raf.specs.declared.errors.Error.{Error}
-use Rattle.raf.specs.declared.errors.ErrorKind.{ErrorKind}
-use Rattle.raf.specs.declared.errors.ErrorKind.TheVariants as kinds
+use Rattle.counts.specs.Counts.{Rose}
+use Rattle.raf_io.specs.Kinds.{kind_of}
+use Rattle.raf.specs.Kinds.{is_fault}
+use Rattle.raf_io.specs.declared.errors.Error.{Error}
+use Rattle.raf_io.specs.declared.errors.ErrorKind.{ErrorKind}
+use Rattle.raf_io.specs.declared.errors.ErrorKind.TheVariants as kinds
 use Rattle.raf.specs.declared.command.Reply.{Reply}
 use Rattle.raf.specs.declared.command.Reply.TheVariants as replies
 use Rattle.raf.specs.Cipher.{cipher_of}

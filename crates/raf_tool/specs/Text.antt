@@ -3,13 +3,14 @@ use Rattle.std.specs.Prelude.{◌∷◌, [], ◌++◌, ℕ, List, codes, Option,
 use Rattle.std.specs.List.{flat_map}
 use Rattle.std.specs.Io.KnownBytes.{Appends}
 use Rattle.hex.specs.Hex.{encode_lower}
-use Rattle.raf.specs.Counts.{HasCause}
-use Rattle.raf.specs.Kinds.{is_fault, kind_of}
-use Rattle.raf.specs.declared.errors.Error.{Error}
-use Rattle.raf.specs.declared.errors.ErrorKind.{ErrorKind}
-use Rattle.raf.specs.declared.errors.ErrorKind.TheVariants as kinds
-use Rattle.raf.specs.declared.errors.Reason.{Reason}
-use Rattle.raf.specs.declared.errors.Reason.TheVariants as reasons
+use Rattle.counts.specs.Counts.{HasCause}
+use Rattle.raf_io.specs.Kinds.{kind_of}
+use Rattle.raf.specs.Kinds.{is_fault}
+use Rattle.raf_io.specs.declared.errors.Error.{Error}
+use Rattle.raf_io.specs.declared.errors.ErrorKind.{ErrorKind}
+use Rattle.raf_io.specs.declared.errors.ErrorKind.TheVariants as kinds
+use Rattle.raf_io.specs.declared.errors.Reason.{Reason}
+use Rattle.raf_io.specs.declared.errors.Reason.TheVariants as reasons
 use Rattle.raf.specs.declared.command.Reply.{Reply}
 use Rattle.raf.specs.declared.command.Reply.TheVariants as replies
 use Rattle.raf_tool.specs.Streams.{AppendsPrefix, TellsAsBefore}

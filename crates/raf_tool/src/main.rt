@@ -17,8 +17,6 @@ mod streams;
 #[cfg(test)]
 mod tests;
 mod values;
-#[cfg(test)]
-mod vectors;
 mod whole;
 mod words;
 

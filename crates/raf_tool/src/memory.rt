@@ -1,8 +1,8 @@
 //! A source and a sink in memory, which tell all. Calls can be made to fail, by their numbers.
-ghost use Rattle.std.specs.Prelude.{◌≡◌, ◌≤◌, [], ℕ, List, Some, drop, Contains, IsErr, ◌↔◌, length, IfOk};
+ghost use Rattle.std.specs.Prelude.{◌≡◌, ◌≤◌, [], ℕ, List, Some, drop, Contains, IsErr, ◌↔◌, length, IfOk, OnErr};
 ghost use Rattle.std.specs.Io.{ReadsAtMost, WritesAtMost};
 ghost use Rattle.std.specs.Io.KnownBytes.{ReadConsumes, WriteAppends};
-ghost use Rattle.raf.specs.Counts.{HasCause, raised};
+ghost use Rattle.counts.specs.Counts.{HasCause, raised};
 ghost use Rattle.raf_tool.specs.Streams.{TellsAsBefore, TakesSome};
 ghost use Rattle.raf_tool.specs.Memory.{Memory};
 
@@ -53,6 +53,7 @@ impl Source for VecSource {
         ensures bytes { ReadConsumes (Some self.old.bytes) (Some self.new.bytes) result buf.new }
         ensures tells { TellsAsBefore (Some self.old.bytes) (Some self.new.bytes) }
         ensures cause { HasCause self.old.faults self.new.faults result }
+        ensures one { OnErr result (self.new.faults ≡ raised self.old.faults 1) }
         // A fault comes exactly where the call's number is in the list.
         ensures exact { IsErr result ↔ Contains self.old.fail self.old.calls }
         ensures count { self.new.calls ≡ raised self.old.calls 1 }
@@ -119,6 +120,7 @@ impl Sink for VecSink {
         ensures bytes { WriteAppends (Some self.old.bytes) (Some self.new.bytes) result buf.now }
         ensures tells { TellsAsBefore (Some self.old.bytes) (Some self.new.bytes) }
         ensures cause { HasCause self.old.faults self.new.faults result }
+        ensures one { OnErr result (self.new.faults ≡ raised self.old.faults 1) }
         // Every piece that is taken is taken whole.
         ensures whole { IfOk result (λ n. n ≡ length buf.now) }
         // A call whose number is in the list fails. So does one that finds no memory.

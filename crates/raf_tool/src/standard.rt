@@ -1,8 +1,8 @@
 //! Any reader and any writer of std as a source and a sink, with a count of faults. They tell no bytes.
-ghost use Rattle.std.specs.Prelude.{◌≡◌, None, ℕ};
+ghost use Rattle.std.specs.Prelude.{◌≡◌, None, ℕ, OnErr};
 ghost use Rattle.std.specs.Io.{ReadsAtMost, WritesAtMost};
 ghost use Rattle.std.specs.Io.KnownBytes.{ReadConsumes, WriteAppends};
-ghost use Rattle.raf.specs.Counts.{HasCause};
+ghost use Rattle.counts.specs.Counts.{HasCause, raised};
 ghost use Rattle.raf_tool.specs.Streams.{TellsAsBefore, TakesSome};
 
 use crate::streams::{Failed, Sink, Source};
@@ -36,6 +36,7 @@ impl<T: Read> Source for ReadSource<T> {
         ensures bytes { ReadConsumes None None result buf.new }
         ensures tells { TellsAsBefore None None }
         ensures cause { HasCause self.old.faults self.new.faults result }
+        ensures one { OnErr result (self.new.faults ≡ raised self.old.faults 1) }
         // Where the reader's bytes are known, it gives just those.
         ensures reader { ReadConsumes (T.remaining self.old.inner) (T.remaining self.new.inner) result buf.new }
     {
@@ -79,6 +80,7 @@ impl<T: Write> Sink for WriteSink<T> {
         ensures bytes { WriteAppends None None result buf.now }
         ensures tells { TellsAsBefore None None }
         ensures cause { HasCause self.old.faults self.new.faults result }
+        ensures one { OnErr result (self.new.faults ≡ raised self.old.faults 1) }
         // Where the writer's bytes are known, it has them.
         ensures writer { WriteAppends (T.contents self.old.inner) (T.contents self.new.inner) result buf.now }
     {

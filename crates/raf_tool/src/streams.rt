@@ -3,7 +3,7 @@ ghost use Rattle.std.specs.Prelude.{List, ℕ};
 ghost use Rattle.std.specs.Io.{ReadsAtMost, WritesAtMost};
 ghost use Rattle.std.specs.Io.KnownBytes.{ReadConsumes, WriteAppends};
 ghost use Rattle.std.specs.declared.option.Option.{Option};
-ghost use Rattle.raf.specs.Counts.{HasCause};
+ghost use Rattle.counts.specs.Counts.{HasCause};
 ghost use Rattle.raf_tool.specs.Streams.{TellsAsBefore, TakesSome};
 
 /// A call that the source or the sink didn't carry out.

@@ -2,9 +2,12 @@
 
 use crate::memory::{VecSink, VecSource};
 use crate::program::{Words, run};
-use crate::streams::{Failed, Source};
+use crate::standard::{ReadSource, WriteSink};
+use crate::streams::{Failed, Sink, Source};
 use aegis::raf::{Aegis128L, Header, MemIo, write_header};
 use std::alloc::{AllocError, Global};
+use std::io;
+use std::io::{Read, Write};
 use std::process::Abort;
 use std::test::Fail;
 
@@ -307,4 +310,47 @@ fn a_source_that_fails_gives_nothing(rt: HostRuntime) -> Result<(), Fail> {
         assert_eq!(rt; sink.written().len(), 0, "at call {number}");
     }
     Ok(())
+}
+
+// A reader and a writer of std whose first call fails.
+#[derive(Drop)]
+struct FailsOnce {
+    failed: bool,
+}
+
+impl Read for FailsOnce {
+    fn read(&mut self, buf: &mut [u8]) -> io::Result<usize> {
+        if !self.failed {
+            self.failed = true;
+            return Err(io::ErrorKind::Other.into());
+        }
+        buf.fill(7);
+        Ok(buf.len())
+    }
+}
+
+impl Write for FailsOnce {
+    fn write(&mut self, buf: &[u8]) -> io::Result<usize> {
+        if !self.failed {
+            self.failed = true;
+            return Err(io::ErrorKind::Other.into());
+        }
+        Ok(buf.len())
+    }
+
+    fn flush(&mut self) -> io::Result<()> {
+        Ok(())
+    }
+}
+
+#[test]
+fn a_reader_and_a_writer_of_std_work_again_after_a_fault(rt: HostRuntime) {
+    let mut source = ReadSource::new(FailsOnce { failed: false });
+    let mut buf = [0; 4];
+    assert!(rt; source.read(&mut buf) == Err(Failed));
+    assert!(rt; source.read(&mut buf) == Ok(4));
+    assert!(rt; buf == [7; 4]);
+    let mut sink = WriteSink::new(FailsOnce { failed: false });
+    assert!(rt; sink.write(b"text") == Err(Failed));
+    assert!(rt; sink.write(b"text") == Ok(4));
 }

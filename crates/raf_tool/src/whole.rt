@@ -1,7 +1,7 @@
 //! A whole source in, and a whole text into a sink.
 ghost use Rattle.std.specs.Prelude.{◌≡◌, ◌≢◌, ◌+◌, ◌^◌, ◌<◌, ◌≤◌, length, IfOk, OnOk, IsErrOf, IfSome};
 ghost use Rattle.std.specs.Io.KnownBytes.{Appends, Consumes, IsAtEnd};
-ghost use Rattle.raf.specs.Counts.{HasCause, Rose};
+ghost use Rattle.counts.specs.Counts.{HasCause, Rose};
 ghost use Rattle.raf_tool.specs.Streams.{AppendsPrefix, ConsumesAtMost, TellsAsBefore};
 ghost use Rattle.raf_tool.specs.declared.whole.ReadError.TheVariants.{OutOfMemory};
 

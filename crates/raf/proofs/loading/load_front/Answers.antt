@@ -3,9 +3,9 @@ use Rattle.std.specs.Result.{OnOk, IfErr}
 use Rattle.std.proofs.lemmas.List.{take_at}
 use Rattle.raf.specs.Cipher.{cipher_of}
 use Rattle.raf.specs.Stepped.{unsealed}
-use Rattle.raf.specs.Kinds.{kind_of}
-use Rattle.raf.specs.declared.errors.Error.{Error}
-use Rattle.raf.specs.declared.errors.ErrorKind.TheVariants.{AuthenticationFailed}
+use Rattle.raf_io.specs.Kinds.{kind_of}
+use Rattle.raf_io.specs.declared.errors.Error.{Error}
+use Rattle.raf_io.specs.declared.errors.ErrorKind.TheVariants.{AuthenticationFailed}
 use Rattle.raf.proofs.loading.load_front.Goals as goal
 
 pub returns-clause-loaded : goal.returns-clause-loaded

@@ -1,6 +1,6 @@
 use Rattle.raf.specs.Loaded.{Loaded}
-use Rattle.raf.specs.Kinds.{kind_of}
-use Rattle.raf.specs.declared.errors.Error.{Error}
+use Rattle.raf_io.specs.Kinds.{kind_of}
+use Rattle.raf_io.specs.declared.errors.Error.{Error}
 use Rattle.raf.proofs.HandedOn.{handed_on, loaded_io}
 use Rattle.raf.proofs.loading.load_record.Goals as goal
 

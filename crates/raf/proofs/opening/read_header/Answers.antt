@@ -1,6 +1,6 @@
 use Rattle.std.proofs.Common.{◌≡◌, ℕ, ◌+◌, List, length, Option, refl, sym, ◌∙◌, ap, subst, arith}
 use Rattle.std.proofs.lemmas.Bool.{false≢true}
-use Rattle.raf.specs.Storage.{IsLengthOf}
+use Rattle.raf_io.specs.Storage.{IsLengthOf}
 use Rattle.raf.specs.Cipher.{cipher_of}
 use Rattle.raf.specs.Header.{Says}
 use Rattle.raf.specs.File.{layout_len}

@@ -1,11 +1,11 @@
 use Rattle.std.proofs.Common.{◌≡◌, ℕ, List, Ok, refl, sym, ap, subst}
 use Rattle.raf.specs.Cipher.{cipher_of}
 use Rattle.raf.specs.File.{IsFile}
-use Rattle.raf.specs.Kinds.{kind_of}
+use Rattle.raf_io.specs.Kinds.{kind_of}
 use Rattle.raf.specs.Ended.{Ended}
 use Rattle.raf.specs.Session.{Meets}
 use Rattle.raf.specs.declared.command.Reply.{Reply}
-use Rattle.raf.specs.declared.errors.Error.TheVariants.{OutOfMemory}
+use Rattle.raf_io.specs.declared.errors.Error.TheVariants.{OutOfMemory}
 use Rattle.raf.proofs.Ciphers.{lawful}
 use Rattle.raf.proofs.Outcomes.{refusal, refused_meets, answered_meets}
 use Rattle.raf.proofs.serving.serve.Goals as goal

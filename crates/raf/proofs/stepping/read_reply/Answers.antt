@@ -6,7 +6,7 @@ use Rattle.raf.specs.Due.Due.{Exactly}
 use Rattle.raf.specs.Loaded.{Loaded}
 use Rattle.raf.specs.declared.command.Command.TheVariants.{Read}
 use Rattle.raf.specs.declared.command.Reply.TheVariants.{Bytes}
-use Rattle.raf.specs.declared.errors.ErrorKind.{ErrorKind}
+use Rattle.raf_io.specs.declared.errors.ErrorKind.{ErrorKind}
 use Rattle.raf.proofs.Ciphers.{lawful}
 use Rattle.raf.proofs.Authentic.{authentic_piece}
 use Rattle.raf.proofs.Moves.{moved_same, quiet_same, kept_same}

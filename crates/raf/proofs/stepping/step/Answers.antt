@@ -3,7 +3,7 @@ use Rattle.raf.specs.Cipher.{cipher_of}
 use Rattle.raf.specs.Stepped.{Stepped}
 use Rattle.raf.specs.declared.command.Command.{Command}
 use Rattle.raf.specs.declared.command.Reply.TheVariants.{Size, Refused}
-use Rattle.raf.specs.declared.errors.ErrorKind.TheVariants.{MerkleNotEnabled, Unbuilt}
+use Rattle.raf_io.specs.declared.errors.ErrorKind.TheVariants.{MerkleNotEnabled, Unbuilt}
 use Rattle.raf.proofs.Plain.{stepped_size, stepped_truncate, stepped_sync, stepped_rebuild, stepped_verify, stepped_commitment}
 use Rattle.raf.proofs.stepping.step.Goals as goal
 

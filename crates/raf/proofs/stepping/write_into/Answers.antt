@@ -1,6 +1,6 @@
 use Rattle.std.proofs.Common.{◌≡◌, inl, ℕ, ◌+◌, max, cond, List, length, take, drop, Option, Some, None, refl, sym, ◌∙◌, ap, subst, arith, length-take}
 use Rattle.std.specs.Prelude.{nat_eq}
-use Rattle.raf.specs.Source.{Takes, TakesAtMost}
+use Rattle.raf_io.specs.Source.{Takes, TakesAtMost}
 use Rattle.raf.specs.Cipher.{cipher_of}
 use Rattle.raf.specs.File.{IsFile}
 use Rattle.raf.specs.Outside.{Moved, Caused}
@@ -8,8 +8,8 @@ use Rattle.raf.specs.Loaded.{Loaded, Stored, Spared}
 use Rattle.raf.specs.Stepped.{with_size, laid, message}
 use Rattle.raf.specs.declared.format.header.Header.{Header}
 use Rattle.raf.specs.declared.command.Command.TheVariants.{Write}
-use Rattle.raf.specs.declared.errors.ErrorKind.{ErrorKind}
-use Rattle.raf.specs.declared.errors.ErrorKind.TheVariants.{AuthenticationFailed}
+use Rattle.raf_io.specs.declared.errors.ErrorKind.{ErrorKind}
+use Rattle.raf_io.specs.declared.errors.ErrorKind.TheVariants.{AuthenticationFailed}
 use Rattle.raf.proofs.Ciphers.{lawful}
 use Rattle.raf.proofs.Changes.{shaped_missing, sized_refused, may_io, free}
 use Rattle.raf.proofs.Moves.{moved_less, moved_then, quiet_then, caused_later}

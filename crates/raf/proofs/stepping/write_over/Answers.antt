@@ -2,7 +2,7 @@ use Rattle.std.proofs.Common.{◌≡◌, ℕ, ◌+◌, max, cond, [], length, ta
 use Rattle.std.specs.Prelude.{nat_eq}
 use Rattle.raf.specs.Cipher.{cipher_of}
 use Rattle.raf.specs.Outside.{Moved, Caused}
-use Rattle.raf.specs.declared.errors.ErrorKind.{ErrorKind}
+use Rattle.raf_io.specs.declared.errors.ErrorKind.{ErrorKind}
 use Rattle.raf.proofs.Ciphers.{lawful}
 use Rattle.raf.proofs.Moves.{moved_less}
 use Rattle.raf.proofs.Held.{held_over}

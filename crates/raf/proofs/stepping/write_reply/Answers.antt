@@ -2,7 +2,7 @@ use Rattle.std.proofs.Common.{◌≡◌, inl, inr, ◌+◌, ◌<◌, length, ref
 use Rattle.raf.specs.Cipher.{cipher_of}
 use Rattle.raf.specs.declared.command.Command.TheVariants.{Write}
 use Rattle.raf.specs.declared.command.Reply.TheVariants.{Refused, Wrote}
-use Rattle.raf.specs.declared.errors.ErrorKind.TheVariants.{Unbuilt}
+use Rattle.raf_io.specs.declared.errors.ErrorKind.TheVariants.{Unbuilt}
 use Rattle.raf.proofs.Ciphers.{lawful}
 use Rattle.raf.proofs.Changes.{shaped_unbuilt, shaped_nothing, sized_nothing, sized_refused}
 use Rattle.raf.proofs.Held.{held_past}

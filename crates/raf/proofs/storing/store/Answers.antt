@@ -1,6 +1,6 @@
 use Rattle.std.proofs.Common.{◌≡◌, ℕ, ◌+◌, ◌-◌, max, List, ◌++◌, length, take, drop, Some, sym, ◌∙◌, ap, subst, arith, length-take}
 use Rattle.std.proofs.lemmas.List.{take-take}
-use Rattle.raf.specs.Storage.{spliced}
+use Rattle.raf_io.specs.Storage.{spliced}
 use Rattle.raf.specs.Cipher.{cipher_of}
 use Rattle.raf.specs.Header.{sealed_header}
 use Rattle.raf.specs.File.{sealed}

@@ -1,6 +1,6 @@
 use Rattle.std.proofs.Common.{◌≡◌, ℕ, List, Some, subst}
 use Rattle.std.specs.Result.{OnOk}
-use Rattle.raf.specs.Storage.{spliced}
+use Rattle.raf_io.specs.Storage.{spliced}
 use Rattle.raf.proofs.storing.write_size.Goals as goal
 
 pub returns-clause-written : goal.returns-clause-written

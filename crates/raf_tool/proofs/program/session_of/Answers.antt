@@ -1,7 +1,7 @@
 use Rattle.std.proofs.Common.{◌≡◌, ◌∙◌, sym, ap, Some}
 use Rattle.aegis_core.specs.declared.variant.Variant.TheVariants as variants
-use Rattle.raf.specs.Memory.{memory_bytes, durable_bytes, left_of}
-use Rattle.raf.specs.declared.source.VecRng.{VecRng}
+use Rattle.raf_io.specs.Memory.{memory_bytes, durable_bytes, left_of}
+use Rattle.raf_io.specs.declared.source.VecRng.{VecRng}
 use Rattle.raf_tool.specs.Run.{fresh}
 use Rattle.raf_tool.proofs.SessionLemmas.{meets_same, is_fresh}
 use Rattle.raf_tool.proofs.program.session_of.Goals as goal

@@ -1,0 +1,149 @@
+//! The keystream, and the calls that have to agree with sealing in place.
+
+ghost use Rattle.std.specs.Prelude.{◌^◌, ◌<◌, length};
+
+use super::{step_through, stepped};
+use aegis_128::{aegis128l, aegis128x2, aegis128x4};
+use aegis_256::{aegis256, aegis256x2, aegis256x4};
+use aegis_core::{Cipher, CipherKind, LaneState};
+use std::alloc::Global;
+use std::process::Abort;
+use std::test::Fail;
+
+// `stream` added to the message is what `stream_xor` gives, and added twice it gives the message.
+fn adds<K: CipherKind<S, KEY_BYTES>, S: LaneState, const KEY_BYTES: usize>(
+    rt: &impl Abort,
+    alloc: Global,
+    short: &Cipher<K, S, KEY_BYTES, 16>,
+    long: &Cipher<K, S, KEY_BYTES, 32>,
+    message: &[u8],
+    stream: &[u8],
+) -> Result<(), Fail> {
+    let mut added = Vec::new(alloc);
+    for (byte, key) in message.iter().zip(stream.iter()) {
+        added.push(byte ^ key)?;
+    }
+    assert!(rt; short.stream_xor(alloc, message)? == added);
+    let mut mc = message.to_vec(alloc)?;
+    long.stream_xor_in_place(&mut mc);
+    assert!(rt; mc == added);
+    short.stream_xor_in_place(&mut mc);
+    assert!(rt; mc.as_slice() == message);
+    Ok(())
+}
+
+// The keystream of the message's length is the cipher text of zeros, whatever the tag's length.
+fn streams<K: CipherKind<S, KEY_BYTES>, S: LaneState, const KEY_BYTES: usize>(
+    rt: &impl Abort,
+    alloc: Global,
+    short: &Cipher<K, S, KEY_BYTES, 16>,
+    long: &Cipher<K, S, KEY_BYTES, 32>,
+    message: &[u8],
+) -> Result<(), Fail>
+    requires { length message.now < 2 ^ 61 }
+{
+    let mut stream = Vec::from_elem(alloc, 0xffu8, message.len())?;
+    short.stream(&mut stream);
+    let mut zeros = Vec::from_elem(alloc, 0u8, message.len())?;
+    let _tag = long.encrypt_in_place(&mut zeros, &[]);
+    assert!(rt; zeros == stream);
+    long.stream(&mut zeros);
+    assert!(rt; zeros == stream);
+    adds(rt, alloc, short, long, message, &stream)
+}
+
+// The calls that take memory answer what those in place do.
+fn allocates<K: CipherKind<S, KEY_BYTES>, S: LaneState, const KEY_BYTES: usize>(
+    rt: &impl Abort,
+    alloc: Global,
+    cipher: &Cipher<K, S, KEY_BYTES, 16>,
+    message: &[u8],
+) -> Result<(), Fail>
+    requires { length message.now < 2 ^ 61 }
+{
+    let (sealed, tag) = cipher.encrypt(alloc, message, b"ad")?;
+    let mut mc = message.to_vec(alloc)?;
+    assert!(rt; cipher.encrypt_in_place(&mut mc, b"ad") == tag);
+    assert!(rt; mc == sealed);
+    assert!(rt; cipher.decrypt_in_place(&mut mc, &tag, b"ad").is_ok());
+    assert!(rt; mc.as_slice() == message);
+    assert!(rt; cipher.decrypt(alloc, &sealed, &tag, b"ad")? == mc);
+    Ok(())
+}
+
+// All of this, for a message of `n` bytes.
+fn agrees<K: CipherKind<S, KEY_BYTES>, S: LaneState, const KEY_BYTES: usize>(
+    rt: &impl Abort,
+    alloc: Global,
+    short: &Cipher<K, S, KEY_BYTES, 16>,
+    long: &Cipher<K, S, KEY_BYTES, 32>,
+    n: usize,
+) -> Result<(), Fail>
+    requires { n < 2 ^ 61 }
+{
+    let mut message = Vec::from_elem(alloc, 0u8, n)?;
+    step_through(&mut message, 13, 1);
+    streams(rt, alloc, short, long, &message)?;
+    allocates(rt, alloc, short, &message)
+}
+
+fn agrees_at_each_length<K: CipherKind<S, KEY_BYTES>, S: LaneState, const KEY_BYTES: usize>(
+    rt: &impl Abort,
+    alloc: Global,
+    short: &Cipher<K, S, KEY_BYTES, 16>,
+    long: &Cipher<K, S, KEY_BYTES, 32>,
+) -> Result<(), Fail> {
+    for n in 0..516 {
+        agrees(rt, alloc, short, long, n)?;
+    }
+    agrees(rt, alloc, short, long, 65536)?;
+    agrees(rt, alloc, short, long, 70001)
+}
+
+#[test]
+fn the_keystream_of_aegis128l_agrees_with_sealing(rt: HostRuntime) -> Result<(), Fail> {
+    let (key, nonce) = (stepped(13, 5), stepped(13, 11));
+    let short = aegis128l::Aegis128L::<16>::new(&key, &nonce);
+    let long = aegis128l::Aegis128L::<32>::new(&key, &nonce);
+    agrees_at_each_length(&rt, rt.alloc(), &short, &long)
+}
+
+#[test]
+fn the_keystream_of_aegis128x2_agrees_with_sealing(rt: HostRuntime) -> Result<(), Fail> {
+    let (key, nonce) = (stepped(13, 5), stepped(13, 11));
+    let short = aegis128x2::Aegis128X2::<16>::new(&key, &nonce);
+    let long = aegis128x2::Aegis128X2::<32>::new(&key, &nonce);
+    agrees_at_each_length(&rt, rt.alloc(), &short, &long)
+}
+
+#[test]
+fn the_keystream_of_aegis128x4_agrees_with_sealing(rt: HostRuntime) -> Result<(), Fail> {
+    let (key, nonce) = (stepped(13, 5), stepped(13, 11));
+    let short = aegis128x4::Aegis128X4::<16>::new(&key, &nonce);
+    let long = aegis128x4::Aegis128X4::<32>::new(&key, &nonce);
+    agrees_at_each_length(&rt, rt.alloc(), &short, &long)
+}
+
+#[test]
+fn the_keystream_of_aegis256_agrees_with_sealing(rt: HostRuntime) -> Result<(), Fail> {
+    let (key, nonce) = (stepped(13, 5), stepped(13, 11));
+    let short = aegis256::Aegis256::<16>::new(&key, &nonce);
+    let long = aegis256::Aegis256::<32>::new(&key, &nonce);
+    agrees_at_each_length(&rt, rt.alloc(), &short, &long)
+}
+
+#[test]
+fn the_keystream_of_aegis256x2_agrees_with_sealing(rt: HostRuntime) -> Result<(), Fail> {
+    let (key, nonce) = (stepped(13, 5), stepped(13, 11));
+    let short = aegis256x2::Aegis256X2::<16>::new(&key, &nonce);
+    let long = aegis256x2::Aegis256X2::<32>::new(&key, &nonce);
+    agrees_at_each_length(&rt, rt.alloc(), &short, &long)
+}
+
+#[test]
+fn the_keystream_of_aegis256x4_agrees_with_sealing(rt: HostRuntime) -> Result<(), Fail> {
+    let (key, nonce) = (stepped(13, 5), stepped(13, 11));
+    let short = aegis256x4::Aegis256X4::<16>::new(&key, &nonce);
+    let long = aegis256x4::Aegis256X4::<32>::new(&key, &nonce);
+    agrees_at_each_length(&rt, rt.alloc(), &short, &long)
+}

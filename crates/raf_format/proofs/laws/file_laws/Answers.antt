@@ -1,0 +1,7 @@
+use Rattle.raf_format.specs.Cipher.{cipher_of}
+use Rattle.raf_format.proofs.Ciphers.{lawful}
+use Rattle.raf_format.proofs.FileLaws.{are_lawful}
+use Rattle.raf_format.proofs.laws.file_laws.Goals as goal
+
+pub returns : goal.returns
+returns g c = are_lawful (cipher_of g.A.Algorithm.variant) (lawful g.A.Algorithm.variant)
