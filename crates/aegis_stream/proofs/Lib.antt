@@ -1,0 +1,11 @@
+pub mod Fronts
+pub mod Heads
+pub mod Frames
+pub mod Unspelled
+pub mod Streams
+pub mod Spelled
+pub mod Progresses
+pub mod Openings
+pub mod Buffers
+pub mod Feeding
+pub mod Back
