@@ -10,8 +10,8 @@ returns c =
     let part : List ℕ = take (length c.args.new.now / 2) c.args.new.now in
     let le : length (take (length c.args.new.now / 2) c.args.new.now) ≤ length c.args.new.now = omega (arith, length-take (length c.args.new.now / 2) c.args.new.now) in
     torn_either c.write_at.result c.args.offset (length c.args.new.now) part (memory_bytes c.args.memory.now) (memory_bytes c.write_at.new.self) le
-      (told c.write_at.result (memory_bytes c.args.memory.now) (memory_bytes c.write_at.new.self) c.args.offset part c.write_at.ensures.written)
-      c.write_at.ensures.unchanged
+    (told c.write_at.result (memory_bytes c.args.memory.now) (memory_bytes c.write_at.new.self) c.args.offset part c.write_at.ensures.written)
+    c.write_at.ensures.unchanged
   where
     told : {E : Type 0} (r : Result (Unit {0}) E) (b now : List ℕ) (at : ℕ) (part : List ℕ) → OnOk r (Some now ≡ Some (spliced at part b)) → OnOk r (now ≡ spliced at part b)
     told (Ok x) b now at part is = cc
