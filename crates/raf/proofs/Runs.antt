@@ -1,23 +1,18 @@
 -- A run of commands goes on by one.
-use Rattle.std.proofs.Common.{◌≡◌, ℕ, ◌+◌, ◌<◌, ◌≤◌, max, List, [], ◌∷◌, ◌++◌, length, take, drop, get_or, map, Option, refl, sym, ◌∙◌, ap, subst, arith, length-drop, take-append-drop}
+use Rattle.std.proofs.Common.{◌≡◌, ℕ, ◌+◌, ◌<◌, ◌≤◌, max, Bool, List, [], ◌∷◌, ◌++◌, length, take, drop, get_or, map, take-append-drop, Option, refl, sym, ◌∙◌, ap, subst, arith, length-drop}
 use Rattle.std.proofs.lemmas.List.{drop_more, take_more, take_all, take-append-le, drop-append-le}
-use Rattle.raf.specs.Cipher.{Cipher}
-use Rattle.raf.specs.File.{File, file_layout}
-use Rattle.raf.specs.Due.{Due}
-use Rattle.raf.specs.Apply.{apply, due_to, file_after, longest}
-use Rattle.raf.specs.Image.{traced, bytes_after, asked_by, asked_in, changes_by, changes_in, traffic_by, traffic_in}
-use Rattle.raf.specs.Session.{Authentic, AllAuthentic, Shaped, AllShaped, shaped_size, read_total}
-use Rattle.raf.specs.Stepped.{room_for}
-use Rattle.raf.specs.Ended.{shaped_end}
+use Rattle.raf_format.specs.Cipher.{Cipher}
+use Rattle.raf_format.specs.File.{File, file_layout}
+use Rattle.raf.specs.Due.{Answers}
+use Rattle.raf.specs.Apply.{apply, file_after, longest}
+use Rattle.raf.specs.Image.{traced, bytes_after, asked_by, asked_in, changes_by, changes_in, traffic_by, traffic_in, calls_by, calls_in}
+use Rattle.raf.specs.Meaning.{Authentic}
+use Rattle.raf.specs.Session.{Ground, AllAnswer, AllAuthentic, TreeDecides, settles, settled_after, room_for}
 use Rattle.raf.specs.declared.command.Command.{Command}
 use Rattle.raf.specs.declared.command.Reply.{Reply}
 
 -- whatever the limit
 module _ (limit : Option ℕ) where
-  pub due-push : (F : File) (xs : List Command) (c : Command) → due_to limit F (xs ++ c ∷ []) ≡ due_to limit F xs ++ (apply limit (file_after limit F xs) c).0 ∷ []
-  due-push F [] c = refl
-  due-push F (x ∷ xs) c = ap (λ (l : List Due). (apply limit F x).0 ∷ l) (due-push (apply limit F x).1 xs c)
-
   pub after-push : (F : File) (xs : List Command) (c : Command) → file_after limit F (xs ++ c ∷ []) ≡ (apply limit (file_after limit F xs) c).1
   after-push F [] c = refl
   after-push F (x ∷ xs) c = after-push (apply limit F x).1 xs c
@@ -29,6 +24,10 @@ module _ (limit : Option ℕ) where
   pub changes-push : (F : File) (xs : List Command) (c : Command) → changes_in limit F (xs ++ c ∷ []) ≡ changes_in limit F xs + changes_by limit (file_after limit F xs) c
   changes-push F [] c = omega arith
   changes-push F (x ∷ xs) c = omega (arith, changes-push (apply limit F x).1 xs c)
+
+  pub calls-push : (F : File) (xs : List Command) (c : Command) → calls_in limit F (xs ++ c ∷ []) ≡ calls_in limit F xs + calls_by limit (file_after limit F xs) c
+  calls-push F [] c = omega arith
+  calls-push F (x ∷ xs) c = omega (arith, calls-push (apply limit F x).1 xs c)
 
   pub traffic-push : (F : File) (xs : List Command) (c : Command) → traffic_in limit F (xs ++ c ∷ []) ≡ traffic_in limit F xs + traffic_by limit (file_after limit F xs) c
   traffic-push F [] c = omega arith
@@ -59,34 +58,33 @@ module _ (limit : Option ℕ) where
       ∙ ap (λ (l : List ℕ). traced limit C key (apply limit F x).1 (xs ++ c ∷ []) (drop (asked_by limit F x) ns ++ d) (bytes_after limit C key F x l b)) (take-append-le (asked_by limit F x) ns d (omega arith))
       ∙ traced-push C key (apply limit F x).1 xs c (drop (asked_by limit F x) ns) d (bytes_after limit C key F x (take (asked_by limit F x) ns) b) (omega (arith, length-drop (asked_by limit F x) ns)) more
 
-  pub authentic-push : (C : Cipher) (key : List ℕ) (F : File) (xs : List Command) (c : Command) (ns d b : List ℕ) → length ns ≡ asked_in limit F xs
-      → AllAuthentic limit C key F xs ns b → Authentic C key (traced limit C key F xs ns b) (file_after limit F xs) c (apply limit (file_after limit F xs) c).0 → AllAuthentic limit C key F (xs ++ c ∷ []) (ns ++ d) b
-  authentic-push C key F [] c ns d b len all last = (last, tt)
-  authentic-push C key F (x ∷ xs) c ns d b len all last = (
+-- the replies, and what was read
+module _ (G : Ground) where
+  pub answer-push : (F : File) (xs : List Command) (rs : List Reply) (c : Command) (r : Reply) → AllAnswer G F xs rs
+      → Answers (TreeDecides G.answers G.setting G.limit (file_after G.limit F xs) c) (apply G.limit (file_after G.limit F xs) c).0 r → AllAnswer G F (xs ++ c ∷ []) (rs ++ r ∷ [])
+  answer-push F [] [] c r all last = (last, tt)
+  answer-push F [] (y ∷ rs) c r all last = absurd all
+  answer-push F (x ∷ xs) [] c r all last = absurd all
+  answer-push F (x ∷ xs) (y ∷ rs) c r all last = (all.0, answer-push (apply G.limit F x).1 xs rs c r all.1 last)
+
+  pub authentic-push : (F : File) (xs : List Command) (c : Command) (ns d b : List ℕ) → length ns ≡ asked_in G.limit F xs
+      → AllAuthentic G F xs ns b → Authentic G.cipher G.key (traced G.limit G.cipher G.key F xs ns b) (file_after G.limit F xs) c (apply G.limit (file_after G.limit F xs) c).0
+      → AllAuthentic G F (xs ++ c ∷ []) (ns ++ d) b
+  authentic-push F [] c ns d b len all last = (last, tt)
+  authentic-push F (x ∷ xs) c ns d b len all last = (
     all.0,
-    subst (λ (l : List ℕ). AllAuthentic limit C key (apply limit F x).1 (xs ++ c ∷ []) l (bytes_after limit C key F x (take (asked_by limit F x) (ns ++ d)) b)) (sym (drop-append-le (asked_by limit F x) ns d (omega arith)))
-        (subst (λ (l : List ℕ). AllAuthentic limit C key (apply limit F x).1 (xs ++ c ∷ []) (drop (asked_by limit F x) ns ++ d) (bytes_after limit C key F x l b)) (sym (take-append-le (asked_by limit F x) ns d (omega arith)))
-        (authentic-push C key (apply limit F x).1 xs c (drop (asked_by limit F x) ns) d (bytes_after limit C key F x (take (asked_by limit F x) ns) b) (omega (arith, length-drop (asked_by limit F x) ns)) all.1 last)),
+    subst (λ (l : List ℕ). AllAuthentic G (apply G.limit F x).1 (xs ++ c ∷ []) l (bytes_after G.limit G.cipher G.key F x (take (asked_by G.limit F x) (ns ++ d)) b)) (sym (drop-append-le (asked_by G.limit F x) ns d (omega arith)))
+        (subst (λ (l : List ℕ). AllAuthentic G (apply G.limit F x).1 (xs ++ c ∷ []) (drop (asked_by G.limit F x) ns ++ d) (bytes_after G.limit G.cipher G.key F x l b)) (sym (take-append-le (asked_by G.limit F x) ns d (omega arith)))
+        (authentic-push (apply G.limit F x).1 xs c (drop (asked_by G.limit F x) ns) d (bytes_after G.limit G.cipher G.key F x (take (asked_by G.limit F x) ns) b) (omega (arith, length-drop (asked_by G.limit F x) ns)) all.1 last)),
   )
 
--- the same of replies by numbers
-pub shaped-push : (chunk_size size : ℕ) (xs : List Command) (rs : List Reply) (c : Command) (r : Reply) → AllShaped chunk_size size xs rs → Shaped chunk_size (shaped_end size xs rs) c r
-    → AllShaped chunk_size size (xs ++ c ∷ []) (rs ++ r ∷ [])
-shaped-push chunk_size size [] [] c r all last = (last, tt)
-shaped-push chunk_size size [] (y ∷ rs) c r all last = absurd all
-shaped-push chunk_size size (x ∷ xs) [] c r all last = absurd all
-shaped-push chunk_size size (x ∷ xs) (y ∷ rs) c r all last = (all.0, shaped-push chunk_size (shaped_size size x y) xs rs c r all.1 last)
+pub settled-push : (s : Bool) (xs : List Command) (c : Command) → settled_after s (xs ++ c ∷ []) ≡ settles (settled_after s xs) c
+settled-push s [] c = refl
+settled-push s (x ∷ xs) c = settled-push (settles s x) xs c
 
-pub shaped_end-push : (chunk_size size : ℕ) (xs : List Command) (rs : List Reply) (c : Command) (r : Reply) → AllShaped chunk_size size xs rs
-    → shaped_end size (xs ++ c ∷ []) (rs ++ r ∷ []) ≡ shaped_size (shaped_end size xs rs) c r
-shaped_end-push chunk_size size [] [] c r all = refl
-shaped_end-push chunk_size size [] (y ∷ rs) c r all = absurd all
-shaped_end-push chunk_size size (x ∷ xs) [] c r all = absurd all
-shaped_end-push chunk_size size (x ∷ xs) (y ∷ rs) c r all = shaped_end-push chunk_size (shaped_size size x y) xs rs c r all.1
-
-pub rooms_next : (commands : List Command) (i : ℕ) (c : Command) → i < length commands → c ≡ get_or commands i c → map room_for (drop i commands) ≡ room_for c ∷ map room_for (drop (i + 1) commands)
-rooms_next commands i c lt is =
-    ap (map room_for) (drop_more commands i c lt) ∙ ap (λ (x : Command). room_for x ∷ map room_for (drop (i + 1) commands)) (sym is)
+pub rooms_next : (n : ℕ) (commands : List Command) (i : ℕ) (c : Command) → i < length commands → c ≡ get_or commands i c → map (room_for n) (drop i commands) ≡ room_for n c ∷ map (room_for n) (drop (i + 1) commands)
+rooms_next n commands i c lt is =
+    ap (map (room_for n)) (drop_more commands i c lt) ∙ ap (λ (x : Command). room_for n x ∷ map (room_for n) (drop (i + 1) commands)) (sym is)
 
 pub commands_next : (commands : List Command) (i : ℕ) (c : Command) → i < length commands → c ≡ get_or commands i c → take (i + 1) commands ≡ take i commands ++ c ∷ []
 commands_next commands i c lt is = take_more commands i c lt ∙ ap (λ (x : Command). take i commands ++ x ∷ []) (sym is)
@@ -94,7 +92,3 @@ commands_next commands i c lt is = take_more commands i c lt ∙ ap (λ (x : Com
 pub commands_split : (commands : List Command) (i : ℕ) (c : Command) → i < length commands → c ≡ get_or commands i c → commands ≡ take i commands ++ c ∷ drop (i + 1) commands
 commands_split commands i c lt is =
     sym (take-append-drop i commands) ∙ ap (λ (l : List Command). take i commands ++ l) (drop_more commands i c lt ∙ ap (λ (x : Command). x ∷ drop (i + 1) commands) (sym is))
-
--- what is read from here on
-pub reads_next : (commands : List Command) (i : ℕ) (c : Command) → i < length commands → c ≡ get_or commands i c → read_total (drop i commands) ≡ read_total (c ∷ drop (i + 1) commands)
-reads_next commands i c lt is = ap read_total (drop_more commands i c lt) ∙ ap (λ (x : Command). read_total (x ∷ drop (i + 1) commands)) (sym is)

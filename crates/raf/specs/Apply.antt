@@ -1,15 +1,16 @@
 -- What commands do to a file, and what is due to them (this project's own).
-use Rattle.std.specs.Prelude.{ℕ, zero, suc, ◌+◌, ◌-◌, ◌*◌, min, max, ◌&&◌, not, if◌then◌else◌, nat_lt, nat_le, nat_eq, List, [], ◌∷◌, ◌++◌, length, take, drop, slice_index, Option, Some, None, unwrap_or}
+use Rattle.std.specs.Prelude.{ℕ, zero, suc, ◌+◌, ◌-◌, ◌*◌, min, max, ◌&&◌, not, if◌then◌else◌, nat_lt, nat_le, List, [], ◌∷◌, ◌++◌, length, take, drop, slice_index, Option, Some, None, unwrap_or}
 use Rattle.raf_io.specs.Storage.{resized}
-use Rattle.raf.specs.File.{File, chunk_count, chunk_len, file_layout}
-use Rattle.raf.specs.Concern.{is_touched, is_resized, written_size, needed, fits, none_missing, valid, is_unbuilt}
+use Rattle.raf_format.specs.File.{File, chunk_count, chunk_len, file_layout}
+use Rattle.raf.specs.Change.{Change, change_of}
+use Rattle.raf.specs.Concern.{is_touched, needed, fits, none_missing, valid}
 use Rattle.raf.specs.Due.{Due}
 use Rattle.raf.specs.Due.Due.{Exactly, Merkle}
 use Rattle.raf.specs.declared.command.Command.{Command}
 use Rattle.raf.specs.declared.command.Command.TheVariants as command
 use Rattle.raf.specs.declared.command.Reply.TheVariants.{Bytes, Wrote, Done, Size, Refused}
 use Rattle.raf_io.specs.declared.errors.ErrorKind.{ErrorKind}
-use Rattle.raf_io.specs.declared.errors.ErrorKind.TheVariants.{AuthenticationFailed, Overflow, MerkleNotEnabled, Unbuilt}
+use Rattle.raf_io.specs.declared.errors.ErrorKind.TheVariants.{AuthenticationFailed, Overflow, MerkleNotEnabled}
 
 -- the bytes of a range, chunk by chunk
 abbrev pub bytes_between : ℕ → ℕ → ℕ → ℕ → List (Option (List ℕ)) → List ℕ
@@ -31,47 +32,31 @@ rebuilt make index zero chunks = []
 rebuilt make index (suc n) [] = make index None ∷ rebuilt make (index + 1) n []
 rebuilt make index (suc n) (c ∷ chunks) = make index c ∷ rebuilt make (index + 1) n chunks
 
--- after a write of these bytes. A touched chunk has at each position the data's byte where the data covers it, else the old byte, else 0
-module _ (F : File) (offset : ℕ) (bytes : List ℕ) where
-  abbrev pub written : ℕ → Option (List ℕ) → Option (List ℕ)
-  written index old =
-      if is_touched F offset bytes index
-      then Some (overlaid (index * F.chunk_size) offset bytes (resized (chunk_len F.chunk_size (written_size F offset bytes) index) (unwrap_or old [])))
-      else old
+-- the bytes of a chunk after a change: at each position the data's byte where the data covers it, else the old byte, else 0
+abbrev pub new_chunk : ℕ → Change → ℕ → List ℕ → List ℕ
+new_chunk chunk_size K index old = overlaid (index * chunk_size) K.offset K.bytes (resized (chunk_len chunk_size K.size index) old)
 
-  abbrev pub after_write : File
-  after_write = record {
-    nonce_len = F.nonce_len;
-    chunk_size = F.chunk_size;
+module _ (F : File) (K : Change) where
+  -- a touched chunk is made anew, and any other stays
+  abbrev pub renewed : ℕ → Option (List ℕ) → Option (List ℕ)
+  renewed index old = if is_touched F K index then Some (new_chunk F.shape.chunk_size K index (unwrap_or old [])) else old
+
+  -- the file afterwards
+  abbrev pub after : File
+  after = record {
+    shape = F.shape;
     id = F.id;
-    size = written_size F offset bytes;
-    chunks = rebuilt written 0 (chunk_count F.chunk_size (written_size F offset bytes)) F.chunks;
-  }
-
--- after a truncation. A touched chunk has its old bytes, and then zeros
-module _ (F : File) (size : ℕ) where
-  abbrev pub truncated : ℕ → Option (List ℕ) → Option (List ℕ)
-  truncated index old = if is_resized F size index then Some (resized (chunk_len F.chunk_size size index) (unwrap_or old [])) else old
-
-  abbrev pub after_truncate : File
-  after_truncate = record {
-    nonce_len = F.nonce_len;
-    chunk_size = F.chunk_size;
-    id = F.id;
-    size = size;
-    chunks = rebuilt truncated 0 (chunk_count F.chunk_size size) F.chunks;
+    size = K.size;
+    chunks = rebuilt renewed 0 (chunk_count F.shape.chunk_size K.size) F.chunks;
   }
 
 -- the file after a command that is valid
 abbrev pub changed : File → Command → File
-changed F (command.Write offset []) = F
-changed F (command.Write offset (x ∷ xs)) = after_write F offset (x ∷ xs)
-changed F (command.Truncate size) = if nat_eq size F.size then F else after_truncate F size
-changed F _ = F
+changed F c = elim (change_of F c) [ None ↦ F | Some K ↦ after F K ]
 
 -- what is due to a command that is valid
 abbrev pub answer : File → Command → Due
-answer F (command.Read offset len) = Exactly (Bytes (bytes_between F.chunk_size offset (min (offset + len) F.size) 0 F.chunks))
+answer F (command.Read offset len) = Exactly (Bytes (bytes_between F.shape.chunk_size offset (min (offset + len) F.size) 0 F.chunks))
 answer F (command.Write offset bytes) = Exactly (Wrote (length bytes))
 answer F (command.Truncate size) = Exactly Done
 answer F command.Size = Exactly (Size F.size)
@@ -86,12 +71,8 @@ cause_of limit F c =
     else MerkleNotEnabled
 
 -- what is due to a command, and the file after it. One that isn't valid is refused and leaves the file
-abbrev pub apply_built : Option ℕ → File → Command → Due × File
-apply_built limit F c = if valid limit F c then (answer F c, changed F c) else (Exactly (Refused (cause_of limit F c)), F)
-
--- the same, after the rule on what isn't built yet
 abbrev pub apply : Option ℕ → File → Command → Due × File
-apply limit F c = if is_unbuilt F c then (Exactly (Refused Unbuilt), F) else apply_built limit F c
+apply limit F c = if valid limit F c then (answer F c, changed F c) else (Exactly (Refused (cause_of limit F c)), F)
 
 -- play: what is due to commands in order, and the file in the end
 abbrev pub due_to : Option ℕ → File → List Command → List Due

@@ -1,6 +1,7 @@
 -- What a command concerns: the size afterwards, the chunks that it needs, and those that it touches; and whether it is valid (this project's own).
-use Rattle.std.specs.Prelude.{ℕ, zero, suc, ◌+◌, ◌*◌, ◌^◌, min, max, Bool, true, false, ◌&&◌, ◌||◌, not, if◌then◌else◌, nat_lt, nat_le, nat_eq, List, [], ◌∷◌, length, Option, Some, None, is_some}
-use Rattle.raf.specs.File.{File, chunk_count, chunk_len, layout_len}
+use Rattle.std.specs.Prelude.{ℕ, zero, suc, ◌+◌, ◌*◌, ◌^◌, min, Bool, true, false, ◌&&◌, ◌||◌, not, if◌then◌else◌, nat_lt, nat_le, List, [], ◌∷◌, length, Option, Some, None, is_some}
+use Rattle.raf_format.specs.File.{File, chunk_count, chunk_len, layout_len}
+use Rattle.raf.specs.Change.{Change, change_of}
 use Rattle.raf.specs.declared.command.Command.{Command}
 use Rattle.raf.specs.declared.command.Command.TheVariants as command
 
@@ -10,54 +11,32 @@ meets start len from end = nat_lt from end && nat_lt start end && nat_lt from (s
 
 -- a read of at most len bytes from an offset on: the range is clipped at the size
 abbrev pub is_read : File → ℕ → ℕ → ℕ → Bool
-is_read F offset len index = meets (index * F.chunk_size) F.chunk_size offset (min (offset + len) F.size)
+is_read F offset len index = meets (index * F.shape.chunk_size) F.shape.chunk_size offset (min (offset + len) F.size)
 
--- a write of these bytes, of which there is one at least
-module _ (F : File) (offset : ℕ) (bytes : List ℕ) where
-  abbrev pub write_end : ℕ
-  write_end = offset + length bytes
-
-  abbrev pub written_size : ℕ
-  written_size = max F.size write_end
-
-  -- the chunks of the new file from the data or the old end on, up to the data's end
+module _ (F : File) (K : Change) where
+  -- the chunks of the new file that meet the range
   abbrev pub is_touched : ℕ → Bool
-  is_touched index = meets (index * F.chunk_size) (chunk_len F.chunk_size written_size index) (min offset F.size) write_end
+  is_touched index = meets (index * F.shape.chunk_size) (chunk_len F.shape.chunk_size K.size index) K.from K.end
 
-  -- some old byte of it stays
+  -- those of them with a position below both sizes that the data doesn't cover
   abbrev pub is_needed : ℕ → Bool
   is_needed index =
-      let start = index * F.chunk_size in
-      let stop = min (start + F.chunk_size) F.size in
-      is_touched index && nat_lt start stop && not (nat_le offset start && nat_le stop write_end)
-
--- a truncation to another size: the chunks of the new file behind the old end, or the one that is cut
-abbrev pub is_resized : File → ℕ → ℕ → Bool
-is_resized F size index =
-    if nat_lt F.size size then meets (index * F.chunk_size) (chunk_len F.chunk_size size index) F.size size
-    else (nat_lt size F.size && nat_lt (index * F.chunk_size) size && nat_lt size (index * F.chunk_size + F.chunk_size))
+      let start = index * F.shape.chunk_size in
+      let stop = min (start + F.shape.chunk_size) (min F.size K.size) in
+      is_touched index && nat_lt start stop && not (nat_le K.offset start && nat_le stop (K.offset + length K.bytes))
 
 -- the size afterwards
 abbrev pub size_after : File → Command → ℕ
-size_after F (command.Write offset []) = F.size
-size_after F (command.Write offset (x ∷ xs)) = written_size F offset (x ∷ xs)
-size_after F (command.Truncate size) = size
-size_after F _ = F.size
+size_after F c = elim (change_of F c) [ None ↦ F.size | Some K ↦ K.size ]
 
 -- the chunks of the new file whose bytes change
 abbrev pub touched : File → Command → ℕ → Bool
-touched F (command.Write offset []) index = false
-touched F (command.Write offset (x ∷ xs)) index = is_touched F offset (x ∷ xs) index
-touched F (command.Truncate size) index = is_resized F size index
-touched F _ index = false
+touched F c index = elim (change_of F c) [ None ↦ false | Some K ↦ is_touched F K index ]
 
 -- the chunks whose old bytes are read or stay in part
 abbrev pub needed : File → Command → ℕ → Bool
 needed F (command.Read offset len) index = is_read F offset len index
-needed F (command.Write offset []) index = false
-needed F (command.Write offset (x ∷ xs)) index = is_needed F offset (x ∷ xs) index
-needed F (command.Truncate size) index = is_resized F size index && nat_lt (index * F.chunk_size) (min F.size size)
-needed F _ index = false
+needed F c index = elim (change_of F c) [ None ↦ false | Some K ↦ is_needed F K index ]
 
 -- each chunk that passes the test is there
 abbrev pub none_missing : (ℕ → Bool) → ℕ → List (Option (List ℕ)) → Bool
@@ -65,24 +44,18 @@ none_missing test index [] = true
 none_missing test index (c ∷ chunks) = (not (test index) || is_some c) && none_missing test (index + 1) chunks
 
 -- a limit is the most chunks that a file may have. A hasher sets one, and without a hasher there is none
-abbrev pub no_limit : Option ℕ
-no_limit = None
-
 abbrev pub within : Option ℕ → ℕ → Bool
 within None count = true
 within (Some most) count = nat_le count most
 
--- the file can have this size: the size and the new length of the storage are below 2^64, and the new count of chunks is within the limit
+-- the file can have this size: the new length of the storage, and with it the size and the data's end, is below 2^64, and the new count
+-- of chunks is within the limit
 abbrev pub can_have : Option ℕ → File → ℕ → Bool
-can_have limit F size =
-    nat_lt size (2 ^ 64) && nat_lt (layout_len F.nonce_len F.chunk_size size) (2 ^ 64) && within limit (chunk_count F.chunk_size size)
+can_have limit F size = nat_lt (layout_len F.shape size) (2 ^ 64) && within limit (chunk_count F.shape.chunk_size size)
 
--- the numbers of a change fit: the data's end is below 2^64, and the file can have the new size
+-- the numbers of a change fit
 abbrev pub fits : Option ℕ → File → Command → Bool
-fits limit F (command.Write offset []) = true
-fits limit F (command.Write offset (x ∷ xs)) = nat_lt (write_end F offset (x ∷ xs)) (2 ^ 64) && can_have limit F (written_size F offset (x ∷ xs))
-fits limit F (command.Truncate size) = nat_eq size F.size || can_have limit F size
-fits limit F _ = true
+fits limit F c = elim (change_of F c) [ None ↦ true | Some K ↦ can_have limit F K.size ]
 
 -- it asks for the hasher's tree
 abbrev pub is_merkle : Command → Bool
@@ -100,11 +73,3 @@ valid limit F c = fits limit F c && none_missing (needed F c) 0 F.chunks && (not
 abbrev pub sum_where : (ℕ → Bool) → (ℕ → ℕ) → ℕ → ℕ → ℕ
 sum_where test f index zero = 0
 sum_where test f index (suc n) = (if test index then f index else 0) + sum_where test f (index + 1) n
-
--- not built yet: truncations, syncs, and writes past one chunk
-abbrev pub is_unbuilt : File → Command → Bool
-is_unbuilt F (command.Write offset []) = false
-is_unbuilt F (command.Write offset (x ∷ xs)) = nat_lt F.chunk_size (write_end F offset (x ∷ xs))
-is_unbuilt F (command.Truncate size) = true
-is_unbuilt F command.Sync = true
-is_unbuilt F _ = false

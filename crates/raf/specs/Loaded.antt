@@ -1,24 +1,37 @@
--- Why a record was not opened, and what a write leaves (this project's own).
-use Rattle.std.specs.Prelude.{◌≡◌, ℕ, ◌+◌, ◌≤◌, List, length, take, Option, Some, if◌then◌else◌, nat_eq}
-use Rattle.raf.specs.Outside.{Outside, Quiet, Caused, Moved}
+-- A chunk that is read from the storage and opened (this project's own).
+use Rattle.std.specs.Prelude.{◌≡◌, ℕ, ◌+◌, ◌^◌, ◌<◌, ◌≤◌, List, length, take, drop, Option, Some, None, Result, OnOk, IfErr}
+use Rattle.raf_format.specs.Cipher.{Cipher}
+use Rattle.raf_format.specs.File.{shape_of, layout_len, chunk_len, record_start, record_len, chunk_at}
+use Rattle.raf.specs.Outside.{Outside, Kept, Quiet, Caused, Moved}
+use Rattle.raf_io.specs.Kinds.{kind_of}
+use Rattle.raf_format.specs.declared.header.Header.{Header}
+use Rattle.raf_io.specs.declared.errors.Error.{Error}
 use Rattle.raf_io.specs.declared.errors.ErrorKind.{ErrorKind}
 use Rattle.raf_io.specs.declared.errors.ErrorKind.TheVariants.{Io, AuthenticationFailed}
 
+-- the first 96 bytes
+pub record Front (b got : List ℕ) : Type 0 where
+  pub is : got ≡ take 96 b
+  pub long : 96 ≤ length b
+
+-- the numbers of a header that a storage can have
+pub record Sound (C : Cipher) (h : Header) : Type 0 where
+  pub least : 16 ≤ h.chunk_size
+  pub most : h.chunk_size ≤ 1048576
+  pub below : layout_len (shape_of C h) h.file_size < 2 ^ 64
+
 -- the storage failed, or the record is the sealed form of no chunk
-abbrev pub Loaded : ErrorKind → Outside → Outside → Type 0
-Loaded Io old new = Caused Io old new
-Loaded AuthenticationFailed old new = Quiet old new
-Loaded _ old new = ⊥
+abbrev pub Unopened : ErrorKind → Outside → Outside → Type 0
+Unopened Io old new = Caused Io old new
+Unopened AuthenticationFailed old new = Quiet old new
+Unopened _ old new = ⊥
 
--- where a storage told these bytes it tells some now, and a call from offset 96 on has left the first 96
-abbrev pub LeavesHeader : ℕ → List ℕ → Option (List ℕ) → Type 0
-LeavesHeader offset old new = (c : List ℕ) × (new ≡ Some c) × (96 ≤ offset → 96 ≤ length old → take 96 c ≡ take 96 old)
-
--- where a storage told these bytes it tells some now, and where the size stays the first 96 stay
-abbrev pub Spared : ℕ → ℕ → List ℕ → Option (List ℕ) → Type 0
-Spared size before old new = (c : List ℕ) × (new ≡ Some c) × (size ≡ before → take 96 c ≡ take 96 old)
-
--- the most that a chunk of this size and a header, where the size is another than before, ask
-abbrev pub Stored : ℕ → ℕ → ℕ → Outside → Outside → Type 0
-Stored nonce_len before size old new =
-    Moved old new (96 + (nonce_len + size + 16)) ((nonce_len + size + 16) + (if nat_eq size before then 0 else 96)) nonce_len (1 + (if nat_eq size before then 0 else 1))
+-- the record of a chunk was read into a place and opened there, under the chunk key: the chunk stands behind the nonce
+pub record Loads (C : Cipher) (chunk_key : List ℕ) (h : Header) (index : ℕ) (old new : Outside) (after : List ℕ) (result : Result (Unit {0}) Error) : Type 0 where
+  pub loaded : (b : List ℕ) → old.bytes ≡ Some b → OnOk result (chunk_at C chunk_key h b index ≡ Some (take (chunk_len h.chunk_size h.file_size index) (drop C.nonce_len after)))
+  pub missing : (b : List ℕ) → old.bytes ≡ Some b → IfErr result (λ e. kind_of e ≡ AuthenticationFailed → chunk_at C chunk_key h b index ≡ None)
+  pub kinds : IfErr result (λ e. Unopened (kind_of e) old new)
+  pub quiet : OnOk result (Quiet old new)
+  pub kept : Kept old new
+  pub moved : Moved old new (record_start (shape_of C h) index + record_len (shape_of C h) h.file_size index) (record_len (shape_of C h) h.file_size index) 0 0 0
+  pub strays : (b : List ℕ) → old.bytes ≡ Some b → layout_len (shape_of C h) h.file_size ≤ length b → new.strays ≡ old.strays

@@ -1,113 +1,161 @@
--- One command on an open file: what the code of a session hands from one command to the next (this project's own).
-use Rattle.std.specs.Prelude.{◌≡◌, ℕ, zero, suc, ◌+◌, max, true, false, List, [], ◌∷◌, ◌++◌, length, take, drop, Option, Some, replicate}
-use Rattle.raf_io.specs.Storage.{resized}
-use Rattle.raf_io.specs.Source.{Takes, TakesAtMost}
-use Rattle.raf.specs.Cipher.{Cipher}
-use Rattle.raf.specs.Header.{sealed_header}
-use Rattle.raf.specs.File.{File, IsFile, beside, sealed, record_at, chunk_count, file_layout}
-use Rattle.raf.specs.Due.{Answers}
-use Rattle.raf.specs.Concern.{no_limit}
-use Rattle.raf.specs.Apply.{apply, overlaid}
-use Rattle.raf.specs.Image.{bytes_after, asked_by, changes_by, traffic_by}
-use Rattle.raf.specs.Outside.{Outside, Quiet, Caused, Moved}
-use Rattle.raf.specs.Session.{Spares, Faultable, Authentic, Shaped, MayFail, shaped_size}
-use Rattle.raf.specs.Kinds.{is_fault}
-use Rattle.raf.specs.declared.format.header.Header.{Header}
+-- One command on an open file: what every call on it states, each of its own command and reply (this project's own).
+use Rattle.std.specs.Prelude.{◌≡◌, ◌≢◌, ℕ, ◌+◌, ◌-◌, ◌≤◌, min, max, Bool, true, false, not, if◌then◌else◌, List, [], ◌∷◌, length, take, Option, Some, Result, Ok, Err, ⊤, ◌⊎◌}
+use Rattle.raf_io.specs.Storage.{Told, SyncedTo}
+use Rattle.raf_io.specs.Source.{Takes, TakesAtMost, IsShort}
+use Rattle.raf_tree.specs.Hashing.{Hashing}
+use Rattle.raf_format.specs.Cipher.{Cipher}
+use Rattle.raf_format.specs.File.{File, chunk_count, file_layout}
+use Rattle.raf.specs.Due.{Answers, is_refused, is_barred}
+use Rattle.raf.specs.Concern.{size_after, needed, fits, sum_where}
+use Rattle.raf.specs.Apply.{apply}
+use Rattle.raf.specs.Image.{bytes_after, asked_by, changes_by, traffic_by, calls_by}
+use Rattle.raf.specs.Outside.{Outside, Kept, Quiet, Caused, Moved, Began, MayHaveBegun}
+use Rattle.raf.specs.Handle.{Handle, limit_of, Holds, Measures, outline, WithTree, OfTree, Grown, KeptAnswer}
+use Rattle.raf.specs.Meaning.{Spares, Faultable, Authentic}
+use Rattle.raf_io.specs.Kinds.{kind_of}
+use Rattle.raf.specs.Due.{is_fault}
+use Rattle.raf_format.specs.declared.header.Header.{Header}
 use Rattle.raf.specs.declared.command.Command.{Command}
 use Rattle.raf.specs.declared.command.Command.TheVariants as command
 use Rattle.raf.specs.declared.command.Reply.{Reply}
-use Rattle.raf.specs.declared.command.Reply.TheVariants.{Refused}
+use Rattle.raf.specs.declared.command.Reply.TheVariants.{Bytes, Wrote, Done, Size, Verified, Commitment, Refused}
+use Rattle.raf_io.specs.declared.errors.Error.{Error}
 use Rattle.raf_io.specs.declared.errors.ErrorKind.{ErrorKind}
-
--- the message that a record is sealed for, computed
-abbrev pub unsealed : Cipher → List ℕ → List ℕ → ℕ → List ℕ → Option (List ℕ)
-unsealed C chunk_key id index r = C.unseal chunk_key (take C.nonce_len r) (beside id index) (drop C.nonce_len r)
-
--- n chunks from an index on
-abbrev pub chunks_from : Cipher → List ℕ → Header → List ℕ → ℕ → ℕ → List (Option (List ℕ))
-chunks_from C key h b index zero = []
-chunks_from C key h b index (suc n) =
-    unsealed C (C.chunk_key key h.id) h.id index (record_at C.nonce_len h.chunk_size h.file_size index b) ∷ chunks_from C key h b (index + 1) n
-
--- the file that these bytes are, if their header says this
-abbrev pub file_of : Cipher → List ℕ → Header → List ℕ → File
-file_of C key h b = record {
-  nonce_len = C.nonce_len;
-  chunk_size = h.chunk_size;
-  id = h.id;
-  size = h.file_size;
-  chunks = chunks_from C key h b 0 (chunk_count h.chunk_size h.file_size);
-}
-
--- an open file over these bytes
-pub record Holds (C : Cipher) (key b : List ℕ) (h : Header) (F : File) : Type 0 where
-  pub is_file : IsFile C key b h
-  pub file : F ≡ file_of C key h b
+use Rattle.raf_io.specs.declared.errors.ErrorKind.TheVariants.{AuthenticationFailed, Overflow, MerkleNotEnabled, Rng, Broken}
 
 -- the header of the same file at another size
 abbrev pub with_size : Header → ℕ → Header
 with_size h n = record { version = h.version; algorithm = h.algorithm; chunk_size = h.chunk_size; file_size = n; id = h.id }
 
--- n bytes: the data from its offset on, else the kept bytes, else zeros
-abbrev pub message : ℕ → ℕ → List ℕ → List ℕ → List ℕ
-message n offset bytes kept = overlaid 0 offset bytes (resized n kept)
+-- what a call answered, as the reply to its command
+abbrev pub read_reply : List ℕ → Result ℕ Error → Reply
+read_reply buf (Ok n) = Bytes (take n buf)
+read_reply buf (Err e) = Refused (kind_of e)
 
--- the file with this data in its one chunk, of which these bytes were kept
-abbrev pub stored : File → ℕ → List ℕ → List ℕ → File
-stored F offset bytes kept = record {
-  nonce_len = F.nonce_len;
-  chunk_size = F.chunk_size;
-  id = F.id;
-  size = max F.size (offset + length bytes);
-  chunks = Some (message (max F.size (offset + length bytes)) offset bytes kept) ∷ [];
-}
+abbrev pub write_reply : Result ℕ Error → Reply
+write_reply (Ok n) = Wrote n
+write_reply (Err e) = Refused (kind_of e)
 
--- a header and one record
-abbrev pub laid : Cipher → List ℕ → Header → List ℕ → List ℕ → List ℕ
-laid C key h nonce m = sealed_header C key h ++ sealed C (C.chunk_key key h.id) h.id 0 nonce m
+abbrev pub done_reply : Result (Unit {0}) Error → Reply
+done_reply (Ok _) = Done
+done_reply (Err e) = Refused (kind_of e)
 
--- the room for the bytes that a command reads
-abbrev pub room_for : Command → List ℕ
-room_for (command.Read offset len) = replicate len 0
-room_for _ = []
+abbrev pub verify_reply : Result (Option ℕ) Error → Reply
+verify_reply (Ok found) = Verified found
+verify_reply (Err e) = Refused (kind_of e)
 
--- a command that was answered without a fault
-pub record Done (C : Cipher) (key : List ℕ) (k : Header) (old new : Outside) (F : File) (b : List ℕ) (c : Command) (reply : Reply) : Type 0 where
-  pub due : Answers reply (apply no_limit F c).0
+abbrev pub commitment_reply : List ℕ → Result (Unit {0}) Error → Reply
+commitment_reply out (Ok _) = Commitment out
+commitment_reply out (Err e) = Refused (kind_of e)
+
+-- the command was refused
+abbrev pub refuses : Reply → Bool
+refuses (Refused kind) = true
+refuses _ = false
+
+-- a change or a rebuild, which writes to storage or tree
+abbrev pub may_mark : Command → Bool
+may_mark (command.Write offset bytes) = true
+may_mark (command.Truncate size) = true
+may_mark command.Rebuild = true
+may_mark _ = false
+
+-- what is durable may be another afterwards
+abbrev pub may_settle : Command → Bool
+may_settle (command.Write offset bytes) = true
+may_settle (command.Truncate size) = true
+may_settle command.Sync = true
+may_settle _ = false
+
+-- a command that was answered without a fault, over a storage that tells: the reply is the one that is due; storage and random source
+-- are those of the image; the new handle holds the new file and has no kept mark; what was read is authentic; and the kept tree goes with
+-- the file
+pub record Answered (C : Cipher) (E : List ℕ → Hashing) (old new : Handle) (F : File) (b : List ℕ) (c : Command) (reply : Reply) : Type 0 where
+  pub due : Answers (λ r. OfTree E old (KeptAnswer F c r)) (apply (limit_of old) F c).0 reply
   pub nonces : List ℕ
-  pub drawn : length nonces ≡ asked_by no_limit F c
-  pub taken : Takes old.left nonces new.left
-  pub tells : new.bytes ≡ Some (bytes_after no_limit C key F c nonces b)
-  pub holds : Holds C key (bytes_after no_limit C key F c nonces b) k (apply no_limit F c).1
-  pub authentic : Authentic C key b F c (apply no_limit F c).0
+  pub drawn : length nonces ≡ asked_by (limit_of old) F c
+  pub taken : Takes old.outside.left nonces new.outside.left
+  pub tells : new.outside.bytes ≡ Some (bytes_after (limit_of old) C old.key F c nonces b)
+  pub holds : Holds C new (apply (limit_of old) F c).1
+  pub authentic : Authentic C old.key b F c (apply (limit_of old) F c).0
+  pub grown : WithTree E old (Grown F) ⊎ ((c ≡ command.Rebuild) × (reply ≡ Done)) → WithTree E new (Grown (apply (limit_of old) F c).1)
+  pub unmarked : new.broken ≡ false
+  pub still : refuses reply ≡ true → (new.outside.changes ≡ old.outside.changes) × (new.outside.calls ≡ old.outside.calls)
 
--- one that a fault cut short
-pub record Cut (kind : ErrorKind) (old new : Outside) (F : File) (b : List ℕ) (c : Command) : Type 0 where
-  pub due : Faultable no_limit kind F c
-  pub left : TakesAtMost old.left (asked_by no_limit F c) new.left
+-- one that a fault cut short, over a storage that tells
+pub record Cut (old new : Handle) (F : File) (b : List ℕ) (c : Command) : Type 0 where
+  pub left : TakesAtMost old.outside.left (asked_by (limit_of old) F c) new.outside.left
   pub bytes : List ℕ
-  pub tells : new.bytes ≡ Some bytes
+  pub tells : new.outside.bytes ≡ Some bytes
   pub spares : Spares F c b bytes
 
--- the most that it asked
-pub record Bounded (old new : Outside) (F : File) (c : Command) : Type 0 where
-  pub moved : Moved old new (max (file_layout F) (file_layout (apply no_limit F c).1)) (traffic_by no_limit F c) (asked_by no_limit F c) (changes_by no_limit F c)
-  pub strays : new.strays ≡ old.strays
-
--- the fault in a reply
-pub record Failed (old new : Outside) (chunk_size : ℕ) (c : Command) (reply : Reply) : Type 0 where
+-- a fault by its count, and where it may come: by the file that is held, and by its numbers alone. A source that fails only where fewer
+-- bytes are left than are asked has fewer than the command asks
+pub record Failed (C : Cipher) (old new : Handle) (c : Command) (reply : Reply) : Type 0 where
   pub kind : ErrorKind
   pub is : reply ≡ Refused kind
-  pub cause : Caused kind old new
-  pub may : MayFail chunk_size c kind
+  pub cause : Caused kind old.outside new.outside
+  pub may : (F : File) → Measures C old F → Faultable (limit_of old) kind F c
+  pub short : (F : File) → Measures C old F → kind ≡ Rng → old.outside.exact ≡ true → IsShort old.outside.left (asked_by (limit_of old) F c)
 
--- a command on an open file
-pub record Stepped (C : Cipher) (key : List ℕ) (h k : Header) (old new : Outside) (c : Command) (reply : Reply) : Type 0 where
-  pub answered : (F : File) (b : List ℕ) → old.bytes ≡ Some b → Holds C key b h F → is_fault reply ≡ false → Done C key k old new F b c reply
-  pub cut : (kind : ErrorKind) → reply ≡ Refused kind → is_fault reply ≡ true → (F : File) (b : List ℕ) → old.bytes ≡ Some b → Holds C key b h F → Cut kind old new F b c
-  pub bounded : (F : File) (b : List ℕ) → old.bytes ≡ Some b → Holds C key b h F → Bounded old new F c
-  pub failed : is_fault reply ≡ true → Failed old new h.chunk_size c reply
-  pub quiet : is_fault reply ≡ false → Quiet old new
-  pub shaped : is_fault reply ≡ false → Shaped h.chunk_size h.file_size c reply
-  pub sized : is_fault reply ≡ false → k ≡ with_size h (shaped_size h.file_size c reply)
-  pub moved : Moved old new new.reach new.traffic C.nonce_len new.changes
+-- the most that a command asked
+abbrev pub Bounded : Option ℕ → Outside → Outside → File → Command → Type 0
+Bounded limit old new F c =
+    Moved old new (max (file_layout F) (file_layout (apply limit F c).1)) (traffic_by limit F c) (asked_by limit F c) (changes_by limit F c) (calls_by limit F c)
+
+-- by numbers it needs a chunk
+abbrev pub Needs : File → Command → Type 0
+Needs F c = 1 ≤ sum_where (needed F c) (λ _. 1) 0 (chunk_count F.shape.chunk_size F.size)
+
+-- what a tree answers, by its form
+abbrev pub HasForm : Command → Reply → Type 0
+HasForm command.Verify reply = (found : Option ℕ) × (reply ≡ Verified found)
+HasForm command.Commitment reply = (out : List ℕ) × (reply ≡ Commitment out)
+HasForm _ reply = ⊥
+
+-- the reply that no fault cut short, by numbers alone
+abbrev pub Shaped : Option ℕ → File → Command → Reply → Type 0
+Shaped limit F (command.Read offset len) reply =
+    ((reply ≡ Refused AuthenticationFailed) × Needs F (command.Read offset len)) ⊎ ((got : List ℕ) × (reply ≡ Bytes got) × (length got ≡ min (offset + len) F.size - offset))
+Shaped limit F command.Rebuild reply = (is_refused (apply limit F command.Rebuild).0 ≡ true → reply ≡ Refused MerkleNotEnabled)
+    × (is_refused (apply limit F command.Rebuild).0 ≡ false → (reply ≡ Done) ⊎ (reply ≡ Refused AuthenticationFailed))
+Shaped limit F c reply =
+    ((reply ≡ Refused AuthenticationFailed) × (fits limit F c ≡ true) × Needs F c) ⊎ Answers (HasForm c) (apply limit F c).0 reply
+
+-- the kept mark, where it wasn't set: a change or a rebuild that is refused sets it where storage or tree was written to, and nothing
+-- else does
+pub record Marked (old new : Handle) (c : Command) (reply : Reply) : Type 0 where
+  pub sets : may_mark c ≡ true → refuses reply ≡ true → Began old.outside new.outside → new.broken ≡ true
+  pub cause : new.broken ≡ true → (may_mark c ≡ true) × (refuses reply ≡ true) × MayHaveBegun old.outside new.outside
+
+-- what stays: the key, the header but for the size, which a change without a refusal alone sets; the limit; the storage's bytes and the
+-- tree where the command is refused and sets no mark; and what is durable
+pub record Stays (C : Cipher) (old new : Handle) (c : Command) (reply : Reply) : Type 0 where
+  pub key : new.key ≡ old.key
+  pub limit : limit_of new ≡ limit_of old
+  pub header : new.header ≡ (if refuses reply then old.header else with_size old.header (size_after (outline C old.header) c))
+  pub bytes : may_mark c ≡ false ⊎ ((refuses reply ≡ true) × (new.broken ≡ false)) → (new.outside.bytes ≡ old.outside.bytes) × (new.tree ≡ old.tree)
+  pub durable : may_settle c ≡ false → new.outside.durable ≡ old.outside.durable
+  pub synced : c ≡ command.Sync → reply ≡ Done → Told (SyncedTo old.outside.bytes) old.outside.durable new.outside.durable
+
+-- a command on a file without the kept mark
+pub record Went (C : Cipher) (E : List ℕ → Hashing) (old new : Handle) (c : Command) (reply : Reply) : Type 0 where
+  pub answered : (F : File) (held : Holds C old F) → is_fault reply ≡ false → Answered C E old new F held.bytes c reply
+  pub cut : (F : File) (held : Holds C old F) → is_fault reply ≡ true → Cut old new F held.bytes c
+  pub failed : is_fault reply ≡ true → Failed C old new c reply
+  pub quiet : is_fault reply ≡ false → Quiet old.outside new.outside
+  pub shaped : is_fault reply ≡ false → Shaped (limit_of old) (outline C old.header) c reply
+  pub bounded : (F : File) → Measures C old F → Bounded (limit_of old) old.outside new.outside F c
+  pub strays : (F : File) → Holds C old F → new.outside.strays ≡ old.outside.strays
+  pub marked : Marked old new c reply
+  pub stays : Stays C old new c reply
+
+-- the reply where the kept mark is set: the size that is kept, and else `Broken`
+abbrev pub broken_reply : Handle → Command → Reply
+broken_reply h command.Size = Size h.header.file_size
+broken_reply h _ = Refused Broken
+
+-- a command on an open file: where the kept mark is set nothing happens
+pub record Stepped (C : Cipher) (E : List ℕ → Hashing) (old new : Handle) (c : Command) (reply : Reply) : Type 0 where
+  pub barred : old.broken ≡ true → (reply ≡ broken_reply old c) × (new ≡ old)
+  pub went : old.broken ≡ false → Went C E old new c reply

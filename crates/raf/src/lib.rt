@@ -1,28 +1,29 @@
 //! An encrypted random-access file over a storage, answering commands.
 #![tactic(auto)]
 
+mod builder;
+mod changing;
 mod command;
 mod data;
-pub mod format;
+mod file;
+mod laws;
 mod loading;
 mod opening;
 mod outside;
 mod overwriting;
+mod reading;
 mod serving;
-mod stepping;
-mod storing;
-#[cfg(test)]
-mod tests;
-#[cfg(test)]
-mod torn;
-/// The hashers of a file's tree.
-pub mod tree {
-    pub use raf_tree::{HashFault, MerkleHasher, NoMerkle};
-}
 
+pub use builder::{OpenError, RafBuilder};
 pub use command::{Command, Replies, Reply};
 pub use data::Data;
-pub use format::{Aegis128L, Algorithm, Header, write_header};
+pub use file::Raf;
+pub use laws::holds_again;
+pub use outside::Parts;
+pub use raf_format::{
+    Aegis128L, Aegis128X2, Aegis128X4, Aegis256, Aegis256X2, Aegis256X4, Algorithm, AlgorithmId,
+    FormatError, Header, RafInfo, Version, unprotected, write_header,
+};
 pub use raf_io::{Error, ErrorKind, MemIo, RafIo, RafRng, Reason, VecRng};
 pub use raf_tree::{FakeHasher, HashFault, MerkleHasher, NoMerkle, Sha256Hasher};
-pub use serving::{RafBuilder, SessionEnd, session};
+pub use serving::{SessionEnd, session};

@@ -1,102 +1,82 @@
-//! The record of a file's one chunk is read and opened.
+//! The record of a chunk is read and opened.
 ghost use Rattle.std.specs.Prelude.{◌≡◌, ◌+◌, ◌-◌, ◌^◌, ◌<◌, ◌≤◌, List, ℕ, length, take, drop, Some, None, IfErr, OnOk};
-ghost use Rattle.raf.specs.Cipher.{cipher_of};
-ghost use Rattle.raf.specs.Stepped.{unsealed};
-ghost use Rattle.raf.specs.Outside.{Kept, Quiet, Moved};
-ghost use Rattle.raf.specs.Loaded.{Loaded};
+ghost use Rattle.raf_format.specs.Cipher.{cipher_of};
+ghost use Rattle.raf_format.specs.File.{shape_of, chunk_count, chunk_len, record_start, record_len};
+ghost use Rattle.raf_format.specs.Version.{tag_len_of};
+ghost use Rattle.raf.specs.Loaded.{Sound, Loads};
 ghost use Rattle.raf_io.specs.Kinds.{kind_of};
 
-use crate::format::{Algorithm, nonce_len, open_record};
-use crate::opening::OpenFile;
-use crate::outside::Ports;
-use raf_io::{Error, ErrorKind, RafIo, RafRng};
+use crate::outside::Parts;
+use raf_format::{Algorithm, Header, nonce_length, open_record};
+use raf_io::{Error, RafIo, RafRng};
+use raf_tree::MerkleHasher;
 
-// Reads the first record into a place of its length, and opens it.
-fn load_record<A: Algorithm, I: RafIo, R: RafRng>(
-    ports: &mut Ports<I, R>,
+/// Where the record of a chunk stands.
+pub fn start_of<A: Algorithm>(header: &Header, index: u64) -> u64
+    requires sound { Sound (cipher_of A.variant) header.now }
+    requires there { index < chunk_count header.now.chunk_size header.now.file_size }
+    ensures { result ≡ record_start (shape_of (cipher_of A.variant) header.now) index }
+{
+    let over = (nonce_length::<A>() + header.tag_len()) as u64;
+    96 + index * (over + u64::from(header.chunk_size))
+}
+
+/// How many bytes a chunk has.
+pub fn chunk_len_of(header: &Header, index: u64) -> usize
+    requires some { 1 ≤ header.now.chunk_size }
+    requires there { index < chunk_count header.now.chunk_size header.now.file_size }
+    ensures { result ≡ chunk_len header.now.chunk_size header.now.file_size index }
+{
+    let chunk_size = u64::from(header.chunk_size);
+    let rest = header.file_size - index * chunk_size;
+    rest.min(chunk_size) as usize
+}
+
+/// How long the record of a chunk is.
+pub fn len_of<A: Algorithm>(header: &Header, index: u64) -> usize
+    requires sound { Sound (cipher_of A.variant) header.now }
+    requires there { index < chunk_count header.now.chunk_size header.now.file_size }
+    ensures { result ≡ record_len (shape_of (cipher_of A.variant) header.now) header.now.file_size index }
+{
+    nonce_length::<A>() + chunk_len_of(header, index) + header.tag_len()
+}
+
+// Reads the record of a chunk into a place of its length, and opens it.
+fn load_record<A: Algorithm, I: RafIo, R: RafRng, H: MerkleHasher>(
+    parts: &mut Parts<I, R, H>,
     chunk_key: &A::Key,
-    id: &[u8; 32],
+    header: &Header,
+    index: u64,
     bytes: &mut [u8],
 ) -> Result<(), Error>
-    requires long { (cipher_of A.variant).nonce_len + 16 ≤ length bytes.old }
-    requires short { length bytes.old < 2 ^ 40 }
-    ensures loaded { (b : List ℕ) → ports.old.bytes ≡ Some b → OnOk result (unsealed (cipher_of A.variant) (A.key_list chunk_key.now) id.now 0 (take (length bytes.old) (drop 96 b)) ≡ Some (take (length bytes.old - ((cipher_of A.variant).nonce_len + 16)) (drop (cipher_of A.variant).nonce_len bytes.new))) }
-    ensures missing { (b : List ℕ) → ports.old.bytes ≡ Some b → IfErr result (λ e. kind_of e ≡ ErrorKind.AuthenticationFailed → unsealed (cipher_of A.variant) (A.key_list chunk_key.now) id.now 0 (take (length bytes.old) (drop 96 b)) ≡ None) }
-    ensures kinds { IfErr result (λ e. Loaded (kind_of e) ports.old ports.new) }
-    ensures quiet { OnOk result (Quiet ports.old ports.new) }
-    ensures kept { Kept ports.old ports.new }
-    ensures moved { Moved ports.old ports.new (96 + length bytes.old) (length bytes.old) 0 0 }
-    ensures strays { (b : List ℕ) → ports.old.bytes ≡ Some b → 96 + length bytes.old ≤ length b → ports.new.strays ≡ ports.old.strays }
+    requires sound { Sound (cipher_of A.variant) header.now }
+    requires there { index < chunk_count header.now.chunk_size header.now.file_size }
+    requires room { length bytes.old ≡ record_len (shape_of (cipher_of A.variant) header.now) header.now.file_size index }
+    ensures { Loads (cipher_of A.variant) (A.key_list chunk_key.now) header.now index parts.old parts.new bytes.new result }
 {
-    ports.read(bytes, 96)?;
-    if open_record::<A>(chunk_key, id, 0, bytes) {
+    let start = start_of::<A>(header, index);
+    parts.read(bytes, start)?;
+    if open_record::<A>(chunk_key, &header.id, index, header.tag_len(), bytes) {
         Ok(())
     } else {
         Err(Error::AuthenticationFailed)
     }
 }
 
-// The same at the front of a longer buffer.
-fn load_front<A: Algorithm, I: RafIo, R: RafRng>(
-    ports: &mut Ports<I, R>,
+/// Opens a chunk: it stands in the buffer behind the nonce.
+pub fn load<A: Algorithm, I: RafIo, R: RafRng, H: MerkleHasher>(
+    parts: &mut Parts<I, R, H>,
     chunk_key: &A::Key,
-    id: &[u8; 32],
+    header: &Header,
+    index: u64,
     buf: &mut [u8],
-    len: usize,
 ) -> Result<(), Error>
-    requires long { (cipher_of A.variant).nonce_len + 16 ≤ len }
-    requires short { len < 2 ^ 40 }
-    requires fits { len ≤ length buf.old }
-    ensures loaded { (b : List ℕ) → ports.old.bytes ≡ Some b → OnOk result (unsealed (cipher_of A.variant) (A.key_list chunk_key.now) id.now 0 (take len (drop 96 b)) ≡ Some (take (len - ((cipher_of A.variant).nonce_len + 16)) (drop (cipher_of A.variant).nonce_len (take len buf.new)))) }
-    ensures missing { (b : List ℕ) → ports.old.bytes ≡ Some b → IfErr result (λ e. kind_of e ≡ ErrorKind.AuthenticationFailed → unsealed (cipher_of A.variant) (A.key_list chunk_key.now) id.now 0 (take len (drop 96 b)) ≡ None) }
-    ensures kinds { IfErr result (λ e. Loaded (kind_of e) ports.old ports.new) }
-    ensures quiet { OnOk result (Quiet ports.old ports.new) }
-    ensures kept { Kept ports.old ports.new }
-    ensures moved { Moved ports.old ports.new (96 + len) len 0 0 }
-    ensures strays { (b : List ℕ) → ports.old.bytes ≡ Some b → 96 + len ≤ length b → ports.new.strays ≡ ports.old.strays }
+    requires sound { Sound (cipher_of A.variant) header.now }
+    requires there { index < chunk_count header.now.chunk_size header.now.file_size }
+    requires room { length buf.old ≡ (cipher_of A.variant).nonce_len + header.now.chunk_size + tag_len_of header.now.version }
+    ensures { Loads (cipher_of A.variant) (A.key_list chunk_key.now) header.now index parts.old parts.new buf.new result }
 {
+    let len = len_of::<A>(header, index);
     let (front, _) = buf.split_at_mut(len);
-    load_record::<A, I, R>(ports, chunk_key, id, front)
-}
-
-// The same of a vector.
-fn load_vec<A: Algorithm, I: RafIo, R: RafRng>(
-    ports: &mut Ports<I, R>,
-    chunk_key: &A::Key,
-    id: &[u8; 32],
-    buf: &mut Vec<u8>,
-    len: usize,
-) -> Result<(), Error>
-    requires long { (cipher_of A.variant).nonce_len + 16 ≤ len }
-    requires short { len < 2 ^ 40 }
-    requires fits { len ≤ length buf.old.items }
-    ensures loaded { (b : List ℕ) → ports.old.bytes ≡ Some b → OnOk result (unsealed (cipher_of A.variant) (A.key_list chunk_key.now) id.now 0 (take len (drop 96 b)) ≡ Some (take (len - ((cipher_of A.variant).nonce_len + 16)) (drop (cipher_of A.variant).nonce_len (take len buf.new.items)))) }
-    ensures missing { (b : List ℕ) → ports.old.bytes ≡ Some b → IfErr result (λ e. kind_of e ≡ ErrorKind.AuthenticationFailed → unsealed (cipher_of A.variant) (A.key_list chunk_key.now) id.now 0 (take len (drop 96 b)) ≡ None) }
-    ensures kinds { IfErr result (λ e. Loaded (kind_of e) ports.old ports.new) }
-    ensures quiet { OnOk result (Quiet ports.old ports.new) }
-    ensures kept { Kept ports.old ports.new }
-    ensures moved { Moved ports.old ports.new (96 + len) len 0 0 }
-    ensures strays { (b : List ℕ) → ports.old.bytes ≡ Some b → 96 + len ≤ length b → ports.new.strays ≡ ports.old.strays }
-    ensures len { length buf.new.items ≡ length buf.old.items }
-{
-    load_front::<A, I, R>(ports, chunk_key, id, buf, len)
-}
-
-/// Opens the one chunk of a file: it stands in the buffer behind the nonce.
-pub fn load<A: Algorithm, I: RafIo, R: RafRng>(
-    ports: &mut Ports<I, R>,
-    file: &mut OpenFile<A>,
-) -> Result<(), Error>
-    requires { 0 < file.old.header.file_size }
-    ensures loaded { (b : List ℕ) → ports.old.bytes ≡ Some b → OnOk result (unsealed (cipher_of A.variant) (A.key_list file.old.chunk_key) file.old.header.id 0 (take ((cipher_of A.variant).nonce_len + file.old.header.file_size + 16) (drop 96 b)) ≡ Some (take file.old.header.file_size (drop (cipher_of A.variant).nonce_len file.new.buf.items))) }
-    ensures missing { (b : List ℕ) → ports.old.bytes ≡ Some b → IfErr result (λ e. kind_of e ≡ ErrorKind.AuthenticationFailed → unsealed (cipher_of A.variant) (A.key_list file.old.chunk_key) file.old.header.id 0 (take ((cipher_of A.variant).nonce_len + file.old.header.file_size + 16) (drop 96 b)) ≡ None) }
-    ensures kinds { IfErr result (λ e. Loaded (kind_of e) ports.old ports.new) }
-    ensures quiet { OnOk result (Quiet ports.old ports.new) }
-    ensures kept { Kept ports.old ports.new }
-    ensures moved { Moved ports.old ports.new (96 + ((cipher_of A.variant).nonce_len + file.old.header.file_size + 16)) ((cipher_of A.variant).nonce_len + file.old.header.file_size + 16) 0 0 }
-    ensures strays { (b : List ℕ) → ports.old.bytes ≡ Some b → 96 + ((cipher_of A.variant).nonce_len + file.old.header.file_size + 16) ≤ length b → ports.new.strays ≡ ports.old.strays }
-    ensures rest { (file.new.key ≡ file.old.key) × (file.new.chunk_key ≡ file.old.chunk_key) × (file.new.header ≡ file.old.header) }
-{
-    let len = nonce_len::<A>() + file.header.file_size as usize + 16;
-    load_vec::<A, I, R>(ports, &file.chunk_key, &file.header.id, &mut file.buf, len)
+    load_record::<A, I, R, H>(parts, chunk_key, header, index, front)
 }

@@ -1,19 +1,21 @@
-//! A file is opened over its storage.
-ghost use Rattle.std.specs.Prelude.{◌≡◌, ◌+◌, ◌*◌, ◌^◌, ◌<◌, ◌≤◌, max, List, ℕ, length, Some, IfOk, IfErr, OnOk};
-ghost use Rattle.raf.specs.Cipher.{cipher_of};
-ghost use Rattle.raf.specs.File.{IsFile};
+//! What an open file keeps, and how its header is found.
+ghost use Rattle.std.specs.Prelude.{◌≡◌, ◌+◌, ◌^◌, ◌≤◌, max, List, ℕ, length, Some, None, false, MatchOption, IfOk, IfErr, OnOk};
+ghost use Rattle.raf_format.specs.Cipher.{cipher_of};
+ghost use Rattle.raf.specs.Loaded.{Front};
+ghost use Rattle.raf_format.specs.File.{IsFile, shape_of, chunk_count, layout_len};
+ghost use Rattle.raf_format.specs.Version.{tag_len_of};
+ghost use Rattle.raf.specs.Loaded.{Sound};
 ghost use Rattle.raf.specs.Outside.{Kept, Quiet, Moved};
-ghost use Rattle.raf.specs.Session.{WhyNotOpened, OpeningFault};
+ghost use Rattle.raf.specs.Opening.{LaidOut, WhyNotLaidOut, WhyNotOpened, Settings, RefusalFault};
 ghost use Rattle.raf_io.specs.Kinds.{kind_of};
 
-use crate::format::{
-    Algorithm, Header, algorithm_id, chunk_key, header_tag_fits, nonce_len, parse_header,
-};
-use crate::outside::Ports;
-use raf_io::{Error, RafIo, RafRng};
+use crate::outside::Parts;
+use raf_format::{Algorithm, Header, algorithm_number, chunk_key, header_tag_fits, layout_len, nonce_length, parse_header};
+use raf_io::{Error, ErrorKind, RafIo, RafRng, Reason};
+use raf_tree::{MerkleHasher, Tree};
 use std::alloc::Global;
 
-/// What an open file keeps: its keys, its header and room for a record.
+/// What an open file keeps: its keys, its header, room for two records, the tree where it has a hasher, and the kept mark.
 pub struct OpenFile<A: Algorithm> {
     /// The file's key.
     pub key: A::Key,
@@ -22,11 +24,16 @@ pub struct OpenFile<A: Algorithm> {
     /// Its header.
     pub header: Header,
     /// Room for the longest record.
-    pub buf: Vec<u8>,
-    ghost room: { length buf.items ≡ (cipher_of A.variant).nonce_len + header.chunk_size + 16 },
-    ghost one_chunk: { header.file_size ≤ header.chunk_size },
-    ghost least: { 16 ≤ header.chunk_size },
-    ghost small: { header.chunk_size ≤ 1048576 },
+    pub first: Vec<u8>,
+    /// Room for another.
+    pub second: Vec<u8>,
+    /// The tree.
+    pub tree: Option<Tree>,
+    /// A change was cut short.
+    pub broken: bool,
+    ghost first_room: { length first.items ≡ (cipher_of A.variant).nonce_len + header.chunk_size + tag_len_of header.version },
+    ghost second_room: { length second.items ≡ (cipher_of A.variant).nonce_len + header.chunk_size + tag_len_of header.version },
+    ghost sound: { Sound (cipher_of A.variant) header },
     ghost derived: { A.key_list chunk_key ≡ (cipher_of A.variant).chunk_key (A.key_list key) header.id },
 }
 
@@ -36,93 +43,112 @@ impl<A: Algorithm> Drop for OpenFile<A> {
             key: _,
             chunk_key: _,
             header: _,
-            buf: _,
+            first: _,
+            second: _,
+            tree: _,
+            broken: _,
         } = self;
     }
 }
 
-// How long the records of a file of at most one chunk are.
-fn records_len<A: Algorithm>(size: u64, chunk_size: u32) -> u64
-    requires { size ≤ chunk_size }
-    ensures none { size ≡ 0 → result ≡ 0 }
-    ensures one { 0 < size → result ≡ size + (cipher_of A.variant).nonce_len + 16 }
-    ensures short { result < 2 ^ 40 }
+// How many bytes the storage of a file has, or None exactly where that is no `u64`.
+fn layout_of<A: Algorithm>(header: &Header) -> Option<u64>
+    requires least { 16 ≤ header.now.chunk_size }
+    requires most { header.now.chunk_size ≤ 1048576 }
+    ensures { MatchOption result (2 ^ 64 ≤ layout_len (shape_of (cipher_of A.variant) header.now) header.now.file_size) (λ n. n ≡ layout_len (shape_of (cipher_of A.variant) header.now) header.now.file_size) }
 {
-    if size == 0 {
-        0
-    } else {
-        size + nonce_len::<A>() as u64 + 16
-    }
+    layout_len(
+        nonce_length::<A>(),
+        header.tag_len(),
+        header.chunk_size,
+        header.file_size,
+    )
 }
 
-// The header of a storage that can be opened.
-fn read_header<A: Algorithm, I: RafIo, R: RafRng>(
-    ports: &mut Ports<I, R>,
-    key: &A::Key,
-) -> Result<Header, Error>
-    ensures ok { (b : List ℕ) → ports.old.bytes ≡ Some b → IfOk result (λ h. IsFile (cipher_of A.variant) (A.key_list key.now) b h) }
-    ensures least { IfOk result (λ h. 16 ≤ h.chunk_size) }
-    ensures most { IfOk result (λ h. h.chunk_size ≤ 1048576) }
-    ensures one_chunk { IfOk result (λ h. h.file_size ≤ h.chunk_size) }
-    ensures refused { (b : List ℕ) → ports.old.bytes ≡ Some b → IfErr result (λ e. WhyNotOpened (cipher_of A.variant) (A.key_list key.now) b (kind_of e)) }
-    ensures fault { IfErr result (λ e. OpeningFault (kind_of e) ports.old ports.new) }
-    ensures quiet { OnOk result (ports.new.io_faults ≡ ports.old.io_faults) }
-    ensures kept { Kept ports.old ports.new }
-    ensures rng { ports.new.rng_faults ≡ ports.old.rng_faults }
-    ensures moved { Moved ports.old ports.new 96 96 0 0 }
-    ensures within { (b : List ℕ) → ports.old.bytes ≡ Some b → (ports.new.strays ≡ ports.old.strays) × (ports.new.reach ≤ max ports.old.reach (length b)) }
+/// The header of a storage, as it is found: its fields, and its bytes.
+#[derive(Drop)]
+pub struct Found {
+    /// Its fields.
+    pub header: Header,
+    /// Its bytes.
+    pub bytes: [u8; 96],
+}
+
+/// Finds the header of a storage whose length fits it. The tag isn't looked at.
+pub fn find_header<A: Algorithm, I: RafIo, R: RafRng, H: MerkleHasher>(
+    parts: &mut Parts<I, R, H>,
+) -> Result<Found, Error>
+    ensures found { (b : List ℕ) → parts.old.bytes ≡ Some b → IfOk result (λ f. LaidOut (cipher_of A.variant) b f.header × Front b f.bytes) }
+    ensures sound { IfOk result (λ f. Sound (cipher_of A.variant) f.header) }
+    ensures refused { (b : List ℕ) → parts.old.bytes ≡ Some b → IfErr result (λ e. WhyNotLaidOut (cipher_of A.variant) b (kind_of e)) }
+    ensures fault { IfErr result (λ e. RefusalFault (kind_of e) parts.old parts.new) }
+    ensures quiet { OnOk result (Quiet parts.old parts.new) }
+    ensures kept { Kept parts.old parts.new }
+    ensures moved { Moved parts.old parts.new 96 96 0 0 0 }
+    ensures within { (b : List ℕ) → parts.old.bytes ≡ Some b → (parts.new.strays ≡ parts.old.strays) × (parts.new.reach ≤ max parts.old.reach (length b)) }
 {
-    let size = ports.size()?;
+    let size = parts.size()?;
     if size < 96 {
-        return Err(Error::Unbuilt);
+        return Err(Error::InvalidArgument(Reason::Header));
     }
     let mut bytes = [0u8; 96];
-    ports.read(&mut bytes, 0)?;
+    parts.read(&mut bytes, 0)?;
     let header = match parse_header(&bytes) {
-        Some(header) => header,
-        None => return Err(Error::Unbuilt),
+        Ok(header) => header,
+        Err(_) => return Err(Error::InvalidArgument(Reason::Header)),
     };
-    if header.algorithm != algorithm_id::<A>() || header.file_size > header.chunk_size as u64 {
-        return Err(Error::Unbuilt);
+    if header.algorithm != algorithm_number::<A>() {
+        return Err(Error::InvalidArgument(Reason::AlgorithmMismatch));
     }
-    if size != 96 + records_len::<A>(header.file_size, header.chunk_size) {
-        return Err(Error::Unbuilt);
+    match layout_of::<A>(&header) {
+        Some(len) if len == size => Ok(Found { header, bytes }),
+        _ => Err(Error::InvalidArgument(Reason::Layout)),
     }
-    if !header_tag_fits::<A>(&bytes, key) {
-        return Err(Error::AuthenticationFailed);
-    }
-    Ok(header)
 }
 
-/// Opens a file. All the memory that it needs later is taken here.
-pub fn open_file<A: Algorithm, I: RafIo, R: RafRng>(
+// Room of zeros.
+fn room(alloc: Global, len: usize) -> Result<Vec<u8>, Error>
+    ensures len { IfOk result (λ v. length v.items ≡ len) }
+    ensures none { IfErr result (λ e. kind_of e ≡ ErrorKind.OutOfMemory) }
+{
+    let mut buf = Vec::new(alloc);
+    match buf.resize(len, 0) {
+        Ok(()) => Ok(buf),
+        Err(_) => Err(Error::OutOfMemory),
+    }
+}
+
+/// Opens a file without a hasher. All the memory that it needs later is taken here.
+pub fn open_plain<A: Algorithm, I: RafIo, R: RafRng, H: MerkleHasher>(
     alloc: Global,
-    ports: &mut Ports<I, R>,
+    parts: &mut Parts<I, R, H>,
     key: &A::Key,
 ) -> Result<OpenFile<A>, Error>
-    ensures ok { (b : List ℕ) → ports.old.bytes ≡ Some b → IfOk result (λ f. IsFile (cipher_of A.variant) (A.key_list key.now) b f.header) }
-    ensures key { IfOk result (λ f. f.key ≡ key.now) }
-    ensures refused { (b : List ℕ) → ports.old.bytes ≡ Some b → IfErr result (λ e. WhyNotOpened (cipher_of A.variant) (A.key_list key.now) b (kind_of e)) }
-    ensures fault { IfErr result (λ e. OpeningFault (kind_of e) ports.old ports.new) }
-    ensures quiet { OnOk result (ports.new.io_faults ≡ ports.old.io_faults) }
-    ensures kept { Kept ports.old ports.new }
-    ensures rng { ports.new.rng_faults ≡ ports.old.rng_faults }
-    ensures moved { Moved ports.old ports.new 96 96 0 0 }
-    ensures within { (b : List ℕ) → ports.old.bytes ≡ Some b → (ports.new.strays ≡ ports.old.strays) × (ports.new.reach ≤ max ports.old.reach (length b)) }
+    ensures file { (b : List ℕ) → parts.old.bytes ≡ Some b → IfOk result (λ f. IsFile (cipher_of A.variant) (A.key_list key.now) b f.header) }
+    ensures new { IfOk result (λ f. (f.key ≡ key.now) × (f.tree ≡ None) × (f.broken ≡ false)) }
+    ensures refused { (b : List ℕ) (s : Settings) → parts.old.bytes ≡ Some b → s.outside.setting ≡ None → IfErr result (λ e. WhyNotOpened (cipher_of A.variant) H.hashing (A.key_list key.now) s b (kind_of e)) }
+    ensures fault { IfErr result (λ e. RefusalFault (kind_of e) parts.old parts.new) }
+    ensures quiet { OnOk result (Quiet parts.old parts.new) }
+    ensures kept { Kept parts.old parts.new }
+    ensures moved { Moved parts.old parts.new 96 96 0 0 0 }
+    ensures within { (b : List ℕ) → parts.old.bytes ≡ Some b → (parts.new.strays ≡ parts.old.strays) × (parts.new.reach ≤ max parts.old.reach (length b)) }
 {
-    let header = read_header::<A, I, R>(ports, key)?;
-    let mut buf = Vec::new(alloc);
-    if buf
-        .resize(nonce_len::<A>() + header.chunk_size as usize + 16, 0)
-        .is_err()
-    {
-        return Err(Error::OutOfMemory);
+    let found = find_header::<A, I, R, H>(parts)?;
+    let header = found.header;
+    let len = nonce_length::<A>() + header.chunk_size as usize + header.tag_len();
+    let first = room(alloc, len)?;
+    let second = room(alloc, len)?;
+    if !header_tag_fits::<A>(&found.bytes, key) {
+        return Err(Error::AuthenticationFailed);
     }
     let chunk_key = chunk_key::<A>(key, &header.id);
     Ok(OpenFile {
         key: *key,
         chunk_key,
         header,
-        buf,
+        first,
+        second,
+        tree: None,
+        broken: false,
     })
 }

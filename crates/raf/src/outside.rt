@@ -1,24 +1,31 @@
-//! The storage and the random source of a file, seen together.
-ghost use Rattle.std.specs.Prelude.{◌≡◌, ◌+◌, ◌^◌, ◌<◌, ◌≤◌, max, ⊤, length, Some, IfOk, IfErr, OnOk, OnErr};
+//! The storage, the random source and the hasher of a file, seen together.
+ghost use Rattle.std.specs.Prelude.{◌≡◌, ◌+◌, ◌^◌, ◌<◌, ◌≤◌, max, ⊤, List, ℕ, length, Some, IfOk, IfErr, OnOk, OnErr};
 ghost use Rattle.std.specs.Option.{option_map};
-ghost use Rattle.raf_io.specs.Storage.{spliced, Told, ReadsFrom, Torn, IsLengthOf, Strays};
+ghost use Rattle.raf_io.specs.Storage.{spliced, Told, ReadsFrom, Torn, IsLengthOf, Strays, SyncedTo};
 ghost use Rattle.raf_io.specs.Source.{Takes, TakesAtMost};
-ghost use Rattle.raf.specs.Outside.{Kept, Quiet, Caused, Moved};
+ghost use Rattle.raf_tree.specs.Kept.{Kept, kept};
+ghost use Rattle.raf.specs.Handle.{Paired};
+ghost use Rattle.raf.specs.Outside.{Quiet, Caused, Moved, counted, Kept as Kept_};
 ghost use Rattle.raf_io.specs.Kinds.{kind_of};
 
 use raf_io::{Error, ErrorKind, RafIo, RafRng};
+use raf_tree::{MerkleHasher, Tree};
 use std::marker::Model;
 
-/// A storage and a source of random bytes.
-pub struct Ports<I: RafIo, R: RafRng> {
+/// What a file stands on: a storage, a source of random bytes, and a hasher where there is one.
+#[derive(Drop)]
+pub struct Parts<I: RafIo, R: RafRng, H: MerkleHasher> {
     /// The storage.
     pub io: I,
     /// The random source.
     pub rng: R,
+    /// The hasher.
+    pub hasher: Option<H>,
 }
 
-impl<I: RafIo, R: RafRng> Model for Ports<I, R> {
-    ghost use Rattle.raf.specs.Outside.{Outside};
+impl<I: RafIo, R: RafRng, H: MerkleHasher> Model for Parts<I, R, H> {
+    ghost use Rattle.raf.specs.Outside.{Outside, counted};
+    ghost use Rattle.std.specs.Option.{option_map};
 
     ghost Value = { Outside };
 
@@ -33,17 +40,21 @@ impl<I: RafIo, R: RafRng> Model for Ports<I, R> {
       left = R.left p.rng;
       rng_faults = R.faults p.rng;
       asked = R.asked p.rng;
+      exact = R.exact;
+      setting = option_map H.setting p.hasher;
+      hash_faults = counted H.faults p.hasher;
+      calls = counted H.calls p.hasher;
     } };
 }
 
-impl<I: RafIo, R: RafRng> Ports<I, R> {
+impl<I: RafIo, R: RafRng, H: MerkleHasher> Parts<I, R, H> {
     /// How long the storage is.
     pub fn size(&mut self) -> Result<u64, Error>
         ensures size { IfOk result (IsLengthOf self.old.bytes) }
-        ensures kept { Kept self.old self.new }
+        ensures kept { Kept_ self.old self.new }
         ensures failed { IfErr result (λ e. (kind_of e ≡ ErrorKind.Io) × Caused ErrorKind.Io self.old self.new) }
         ensures quiet { OnOk result (Quiet self.old self.new) }
-        ensures moved { Moved self.old self.new 0 0 0 0 }
+        ensures moved { Moved self.old self.new 0 0 0 0 0 }
         ensures strays { self.new.strays ≡ self.old.strays }
     {
         match self.io.get_size() {
@@ -56,10 +67,10 @@ impl<I: RafIo, R: RafRng> Ports<I, R> {
     pub fn read(&mut self, buf: &mut [u8], offset: u64) -> Result<(), Error>
         requires { offset + length buf.old < 2 ^ 64 }
         ensures read { OnOk result (ReadsFrom self.old.bytes offset buf.new) }
-        ensures kept { Kept self.old self.new }
+        ensures kept { Kept_ self.old self.new }
         ensures failed { IfErr result (λ e. (kind_of e ≡ ErrorKind.Io) × Caused ErrorKind.Io self.old self.new) }
         ensures quiet { OnOk result (Quiet self.old self.new) }
-        ensures moved { Moved self.old self.new (offset + length buf.old) (length buf.old) 0 0 }
+        ensures moved { Moved self.old self.new (offset + length buf.old) (length buf.old) 0 0 0 }
         ensures strays { Strays self.old.bytes offset (length buf.old) self.old.strays self.new.strays }
     {
         match self.io.read_at(buf, offset) {
@@ -76,7 +87,7 @@ impl<I: RafIo, R: RafRng> Ports<I, R> {
         ensures left { self.new.left ≡ self.old.left }
         ensures failed { IfErr result (λ e. (kind_of e ≡ ErrorKind.Io) × Caused ErrorKind.Io self.old self.new) }
         ensures quiet { OnOk result (Quiet self.old self.new) }
-        ensures moved { Moved self.old self.new (offset + length bytes.now) (length bytes.now) 0 1 }
+        ensures moved { Moved self.old self.new (offset + length bytes.now) (length bytes.now) 0 1 0 }
         ensures strays { self.new.strays ≡ self.old.strays }
     {
         match self.io.write_at(bytes, offset) {
@@ -92,9 +103,54 @@ impl<I: RafIo, R: RafRng> Ports<I, R> {
         ensures bytes { self.new.bytes ≡ self.old.bytes }
         ensures failed { IfErr result (λ e. (kind_of e ≡ ErrorKind.Rng) × Caused ErrorKind.Rng self.old self.new) }
         ensures quiet { OnOk result (Quiet self.old self.new) }
-        ensures moved { Moved self.old self.new 0 0 (length buf.old) 0 }
+        ensures moved { Moved self.old self.new 0 0 (length buf.old) 0 0 }
         ensures strays { self.new.strays ≡ self.old.strays }
     {
         self.rng.fill(buf)
+    }
+
+    /// Makes the storage durable.
+    pub fn sync(&mut self) -> Result<(), Error>
+        ensures synced { OnOk result (Told (SyncedTo self.old.bytes) self.old.durable self.new.durable) }
+        ensures bytes { self.new.bytes ≡ self.old.bytes }
+        ensures left { self.new.left ≡ self.old.left }
+        ensures failed { IfErr result (λ e. (kind_of e ≡ ErrorKind.Io) × Caused ErrorKind.Io self.old self.new) }
+        ensures quiet { OnOk result (Quiet self.old self.new) }
+        ensures moved { Moved self.old self.new 0 0 0 0 0 }
+        ensures strays { self.new.strays ≡ self.old.strays }
+    {
+        match self.io.sync() {
+            Ok(()) => Ok(()),
+            Err(fault) => Err(Error::Io(fault)),
+        }
+    }
+
+    /// Puts the leaf of a chunk into the tree, where there is one.
+    pub fn put_leaf(
+        &mut self,
+        tree: &mut Option<Tree>,
+        index: u64,
+        chunk: &[u8],
+    ) -> Result<(), Error>
+        requires paired { Paired H.hashing self.old.setting tree.old }
+        requires index { (t : Kept) → tree.old ≡ Some t → index < t.max_chunks }
+        requires chunk { length chunk.now ≤ 2 ^ 60 }
+        ensures put { (t : Kept) (s : List ℕ) → tree.new ≡ Some t → self.old.setting ≡ Some s → OnOk result (kept t 0 index ≡ (H.hashing s).leaf chunk.now index) }
+        ensures paired { Paired H.hashing self.new.setting tree.new }
+        ensures kept { Kept_ self.old self.new }
+        ensures failed { IfErr result (λ e. (kind_of e ≡ ErrorKind.Hash) × Caused ErrorKind.Hash self.old self.new) }
+        ensures quiet { OnOk result (Quiet self.old self.new) }
+        ensures moved { Moved self.old self.new 0 0 0 0 1 }
+        ensures strays { self.new.strays ≡ self.old.strays }
+    {
+        if let Some(hasher) = &mut self.hasher {
+            if let Some(tree) = tree {
+                return match tree.put_leaf::<H>(hasher, index, chunk) {
+                    Ok(()) => Ok(()),
+                    Err(_) => Err(Error::Hash),
+                };
+            }
+        }
+        Ok(())
     }
 }

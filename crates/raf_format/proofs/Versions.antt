@@ -14,7 +14,7 @@ pub tag_of_two : 32 ≡ tag_len_of 2
 unfolding tag_len_of
 tag_of_two = refl
 
-tag_of_other : (version : ℕ) → version ≢ 2 → 16 ≡ tag_len_of version
+pub tag_of_other : (version : ℕ) → version ≢ 2 → 16 ≡ tag_len_of version
 unfolding tag_len_of
 tag_of_other version other =
     let t : nat_eq version 2 ≡ false = grind (arith, nat_tests) in

@@ -1,8 +1,8 @@
 //! The header of an encrypted file: its first 96 bytes.
 ghost use Rattle.std.specs.Prelude.{◌≡◌, ◌+◌, ◌^◌, ◌<◌, ◌≤◌, length, take, drop, slice_index, IfOk, IfErr, ◌↔◌, IsTrue, IsFalse};
 ghost use Rattle.std.specs.Int.{w32, w64, from_le_bytes};
-ghost use Rattle.raf_format.specs.Cipher.{cipher_of};
-ghost use Rattle.raf_format.specs.Version.{IsVersion};
+ghost use Rattle.raf_format.specs.Cipher.{cipher_of, IsTagLen};
+ghost use Rattle.raf_format.specs.Version.{IsVersion, tag_len_of};
 ghost use Rattle.raf_format.specs.Header.{Says, InRange, Tagged, head_of, sealed_header};
 ghost use Rattle.raf_format.specs.declared.header.Header.{Header};
 
@@ -23,6 +23,16 @@ pub struct Header {
     pub file_size: u64,
     /// The file's id, on which its derived keys depend.
     pub id: [u8; 32],
+}
+
+impl Header {
+    /// How many bytes the tags of the file's records have: 32 in version 2, and else 16.
+    pub fn tag_len(&self) -> usize
+        ensures is { result ≡ tag_len_of self.now.version }
+        ensures tag { IsTagLen result }
+    {
+        if self.version == 2 { 32 } else { 16 }
+    }
 }
 
 // The first 64 bytes of a header.

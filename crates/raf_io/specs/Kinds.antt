@@ -2,7 +2,7 @@
 use Rattle.raf_io.specs.declared.errors.Error.{Error}
 use Rattle.raf_io.specs.declared.errors.Error.TheVariants as error
 use Rattle.raf_io.specs.declared.errors.ErrorKind.{ErrorKind}
-use Rattle.raf_io.specs.declared.errors.ErrorKind.TheVariants.{Io, InvalidArgument, AuthenticationFailed, AlreadyExists, NotFound, Overflow, MerkleNotEnabled, CorruptedChunk, Rng, Hash, Broken, OutOfMemory, Unbuilt}
+use Rattle.raf_io.specs.declared.errors.ErrorKind.TheVariants.{Io, InvalidArgument, AuthenticationFailed, AlreadyExists, NotFound, Overflow, MerkleNotEnabled, CorruptedChunk, Rng, Hash, Broken, OutOfMemory}
 
 -- the kind of the same name
 abbrev pub kind_of : Error → ErrorKind
@@ -18,4 +18,3 @@ kind_of error.Rng = Rng
 kind_of error.Hash = Hash
 kind_of error.Broken = Broken
 kind_of error.OutOfMemory = OutOfMemory
-kind_of error.Unbuilt = Unbuilt

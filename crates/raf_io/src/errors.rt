@@ -44,9 +44,6 @@ pub enum Error {
     /// No memory was found.
     #[error("out of memory")]
     OutOfMemory,
-    /// This project doesn't do that yet.
-    #[error("not built yet")]
-    Unbuilt,
 }
 
 /// What is wrong with an argument.
@@ -114,8 +111,6 @@ pub enum ErrorKind {
     Broken,
     /// No memory was found.
     OutOfMemory,
-    /// This project doesn't do that yet.
-    Unbuilt,
 }
 
 impl Error {
@@ -136,7 +131,6 @@ impl Error {
             Error::Hash => ErrorKind::Hash,
             Error::Broken => ErrorKind::Broken,
             Error::OutOfMemory => ErrorKind::OutOfMemory,
-            Error::Unbuilt => ErrorKind::Unbuilt,
         }
     }
 }

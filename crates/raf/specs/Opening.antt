@@ -1,0 +1,180 @@
+-- How a file is opened and made, and why not (this project's own).
+use Rattle.std.specs.Prelude.{◌≡◌, ◌≢◌, ℕ, ◌+◌, ◌*◌, ◌<◌, ◌≤◌, min, Bool, true, false, List, [], length, Option, Some, None, ⊤, ◌⊎◌, is_some}
+use Rattle.raf_tree.specs.Hashing.{Hashing}
+use Rattle.raf_tree.specs.Tree.{height}
+use Rattle.raf_tree.specs.Made.{CanBeMade, RefusesTree}
+use Rattle.raf_tree.specs.declared.tree.TreeError.TheVariants as tree
+use Rattle.raf_format.specs.Cipher.{Cipher}
+use Rattle.raf_format.specs.Header.{Says, Tagged, sealed_header}
+use Rattle.raf_format.specs.File.{File, Opens, shape_of, layout_len, chunk_count, file_of}
+use Rattle.raf_io.specs.Source.{Takes, TakesAtMost, IsShort}
+use Rattle.raf.specs.Concern.{none_missing}
+use Rattle.raf.specs.Outside.{Outside, Kept, Quiet, Caused, Moved}
+use Rattle.raf.specs.Handle.{Handle, Holds, WithTree, Grown, limit_of}
+use Rattle.raf_format.specs.declared.header.Header.{Header}
+use Rattle.raf_io.specs.declared.errors.ErrorKind.{ErrorKind}
+use Rattle.raf_io.specs.declared.errors.ErrorKind.TheVariants.{Io, InvalidArgument, AuthenticationFailed, AlreadyExists, Overflow, Rng, Hash, OutOfMemory}
+use Rattle.raf_io.specs.declared.errors.Reason.TheVariants as reason
+
+-- what a builder was told: the version and the chunk size of a new file, and whether it may take the place of what is there; the most
+-- chunks, where there is a hasher; and the random source and the hasher, beside a storage that is not there yet
+pub record Settings : Type 0 where
+  pub version : ℕ
+  pub chunk_size : ℕ
+  pub truncate : Bool
+  pub most : Option ℕ
+  pub outside : Outside
+
+-- why a file was not opened or made, with what was handed in
+pub record Refusal : Type 0 where
+  pub kind : ErrorKind
+  pub outside : Outside
+
+-- there is a hasher, and the length of its hashes under its setting and the limit of chunks meet this
+abbrev pub OfHasher : (List ℕ → Hashing) → Settings → (ℕ → ℕ → Type 0) → Type 0
+OfHasher E s P = (setting : List ℕ) × (most : ℕ) × (s.outside.setting ≡ Some setting) × (s.most ≡ Some most) × P (E setting).len most
+
+-- where there is a hasher, its tree can be made, and has room for so many chunks
+abbrev pub Room : (List ℕ → Hashing) → Settings → ℕ → Type 0
+Room E s count = (setting : List ℕ) (most : ℕ) → s.outside.setting ≡ Some setting → s.most ≡ Some most → CanBeMade (E setting).len most × (count ≤ most)
+
+-- the header is of this algorithm, and the length fits it
+pub record LaidOut (C : Cipher) (b : List ℕ) (h : Header) : Type 0 where
+  pub says : Says b h
+  pub algorithm : h.algorithm ≡ C.id
+  pub length_fits : length b ≡ layout_len (shape_of C h) h.file_size
+
+-- why bytes are no header of this algorithm with a length that fits it, each cause where none before it stands
+abbrev pub WhyNotLaidOut : Cipher → List ℕ → ErrorKind → Type 0
+WhyNotLaidOut C b Io = ⊤
+WhyNotLaidOut C b (InvalidArgument reason.Header) = (h : Header) → Says b h → ⊥
+WhyNotLaidOut C b (InvalidArgument reason.AlgorithmMismatch) = (h : Header) × Says b h × (h.algorithm ≢ C.id)
+WhyNotLaidOut C b (InvalidArgument reason.Layout) = (h : Header) × Says b h × (h.algorithm ≡ C.id) × (length b ≢ layout_len (shape_of C h) h.file_size)
+WhyNotLaidOut C b _ = ⊥
+
+-- why bytes with such a header and length were not opened, each cause where none before it stands
+abbrev pub WhyNotRead : Cipher → (List ℕ → Hashing) → List ℕ → Settings → List ℕ → Header → ErrorKind → Type 0
+WhyNotRead C E key s b h (InvalidArgument reason.HashLen) = OfHasher E s (λ len most. RefusesTree len most tree.HashLen)
+WhyNotRead C E key s b h (InvalidArgument reason.MaxChunks) = OfHasher E s (λ len most. RefusesTree len most tree.MaxChunks)
+WhyNotRead C E key s b h Overflow =
+    OfHasher E s (λ len most. RefusesTree len most tree.Overflow ⊎ (CanBeMade len most × (most < chunk_count h.chunk_size h.file_size)))
+WhyNotRead C E key s b h AuthenticationFailed =
+    Room E s (chunk_count h.chunk_size h.file_size)
+    × ((Tagged C key b → ⊥) ⊎ (Tagged C key b × (is_some s.outside.setting ≡ true) × (none_missing (λ _. true) 0 (file_of C key h b).chunks ≡ false)))
+WhyNotRead C E key s b h Hash = Room E s (chunk_count h.chunk_size h.file_size) × Tagged C key b × (is_some s.outside.setting ≡ true)
+WhyNotRead C E key s b h OutOfMemory = ⊤
+WhyNotRead C E key s b h _ = ⊥
+
+-- why the bytes that a storage tells were not opened, each cause where none before it stands
+abbrev pub WhyNotOpened : Cipher → (List ℕ → Hashing) → List ℕ → Settings → List ℕ → ErrorKind → Type 0
+WhyNotOpened C E key s b kind = WhyNotLaidOut C b kind ⊎ ((h : Header) × LaidOut C b h × WhyNotRead C E key s b h kind)
+
+-- what numbers alone say of a refusal, whatever the storage tells
+abbrev pub NumbersRefuse : (List ℕ → Hashing) → Settings → ErrorKind → Type 0
+NumbersRefuse E s (InvalidArgument reason.Header) = ⊤
+NumbersRefuse E s (InvalidArgument reason.AlgorithmMismatch) = ⊤
+NumbersRefuse E s (InvalidArgument reason.Layout) = ⊤
+NumbersRefuse E s (InvalidArgument reason.HashLen) = OfHasher E s (λ len most. RefusesTree len most tree.HashLen)
+NumbersRefuse E s (InvalidArgument reason.MaxChunks) = OfHasher E s (λ len most. RefusesTree len most tree.MaxChunks)
+NumbersRefuse E s Overflow = OfHasher E s (λ len most. RefusesTree len most tree.Overflow ⊎ CanBeMade len most)
+NumbersRefuse E s AuthenticationFailed = Room E s 0
+NumbersRefuse E s Hash = Room E s 0 × (is_some s.outside.setting ≡ true)
+NumbersRefuse E s Io = ⊤
+NumbersRefuse E s OutOfMemory = ⊤
+NumbersRefuse E s _ = ⊥
+
+-- the one that a fault names has failed, and with any other kind none
+abbrev pub RefusalFault : ErrorKind → Outside → Outside → Type 0
+RefusalFault Io old new = Caused Io old new
+RefusalFault Rng old new = Caused Rng old new
+RefusalFault Hash old new = Caused Hash old new
+RefusalFault _ old new = Quiet old new
+
+-- the most bytes that an opening reads of a storage of this length, and the most hashes that it asks: those of a header alone, or with a
+-- hasher all
+abbrev pub opening_traffic : Option ℕ → ℕ → ℕ
+opening_traffic None len = min 96 len
+opening_traffic (Some most) len = len
+
+abbrev pub opening_calls : Option ℕ → ℕ → ℕ
+opening_calls None count = 0
+opening_calls (Some most) count = 2 * count + 2 * height most + 1
+
+-- what an opening leaves, whether or not it was refused: all bytes; and the most that it asks
+pub record Looked (old new : Outside) (most : Option ℕ) : Type 0 where
+  pub kept : Kept old new
+  pub moved : (b : List ℕ) → old.bytes ≡ Some b → Moved old new (length b) (opening_traffic most (length b)) 0 0 new.calls
+  pub calls : (b : List ℕ) (h : Header) → old.bytes ≡ Some b → Says b h → new.calls ≤ old.calls + opening_calls most (chunk_count h.chunk_size h.file_size)
+  pub unhashed : (b : List ℕ) → old.bytes ≡ Some b → ((h : Header) → Says b h → ⊥) → new.calls ≡ old.calls
+  pub header_alone : most ≡ None → Moved old new 96 96 0 0 0
+  pub strays : (b : List ℕ) → old.bytes ≡ Some b → new.strays ≡ old.strays
+
+-- an opening that was refused
+pub record NotOpened (C : Cipher) (E : List ℕ → Hashing) (key : List ℕ) (s : Settings) (old new : Outside) (kind : ErrorKind) : Type 0 where
+  pub why : (b : List ℕ) → old.bytes ≡ Some b → WhyNotOpened C E key s b kind
+  pub numbers : NumbersRefuse E s kind
+  pub fault : RefusalFault kind old new
+  pub looked : Looked old new s.most
+
+-- an opening: the new handle has this key, no kept mark and the builder's limit, in which its chunks have room; the storage opens to the
+-- file that it holds; and with a hasher the kept tree is that of its chunks
+pub record Opened (C : Cipher) (E : List ℕ → Hashing) (key : List ℕ) (s : Settings) (old : Outside) (now : Handle) : Type 0 where
+  pub key_is : now.key ≡ key
+  pub unmarked : now.broken ≡ false
+  pub limit : limit_of now ≡ s.most
+  pub room : Room E s (chunk_count now.header.chunk_size now.header.file_size)
+  pub quiet : Quiet old now.outside
+  pub looked : Looked old now.outside s.most
+  pub holds : (b : List ℕ) → old.bytes ≡ Some b → (F : File) × Opens C key b F × Holds C now F × WithTree E now (Grown F)
+
+-- the chunk sizes of a file
+abbrev pub IsChunkSize : ℕ → Type 0
+IsChunkSize n = (16 ≤ n) × (n ≤ 1048576)
+
+-- the numbers of a new file are right
+pub record CanMake (E : List ℕ → Hashing) (s : Settings) : Type 0 where
+  pub chunk_size : IsChunkSize s.chunk_size
+  pub room : Room E s 0
+
+-- the storage may become a new file: it is empty, or may be written over
+abbrev pub IsFree : Settings → Outside → Type 0
+IsFree s old = s.truncate ≡ false → (b : List ℕ) → old.bytes ≡ Some b → b ≡ []
+
+-- why no file was made, each cause where none before it stands
+abbrev pub WhyNotMade : (List ℕ → Hashing) → Settings → Outside → ErrorKind → Type 0
+WhyNotMade E s old (InvalidArgument reason.ChunkSize) = IsChunkSize s.chunk_size → ⊥
+WhyNotMade E s old (InvalidArgument reason.HashLen) = IsChunkSize s.chunk_size × OfHasher E s (λ len most. RefusesTree len most tree.HashLen)
+WhyNotMade E s old (InvalidArgument reason.MaxChunks) = IsChunkSize s.chunk_size × OfHasher E s (λ len most. RefusesTree len most tree.MaxChunks)
+WhyNotMade E s old Overflow = IsChunkSize s.chunk_size × OfHasher E s (λ len most. RefusesTree len most tree.Overflow)
+WhyNotMade E s old OutOfMemory = IsChunkSize s.chunk_size
+WhyNotMade E s old Io = CanMake E s
+WhyNotMade E s old AlreadyExists = CanMake E s × (s.truncate ≡ false) × ((b : List ℕ) → old.bytes ≡ Some b → b ≢ [])
+WhyNotMade E s old Rng = CanMake E s × IsFree s old × (old.exact ≡ true → IsShort old.left 32)
+WhyNotMade E s old Hash = CanMake E s × IsFree s old × (is_some s.outside.setting ≡ true)
+WhyNotMade E s old _ = ⊥
+
+-- a making that was refused: a storage that was not written to has its bytes
+pub record NotMade (E : List ℕ → Hashing) (s : Settings) (old new : Outside) (kind : ErrorKind) : Type 0 where
+  pub why : WhyNotMade E s old kind
+  pub fault : RefusalFault kind old new
+  pub kept : new.changes ≡ old.changes → (new.bytes ≡ old.bytes) × (new.durable ≡ old.durable)
+  pub left : TakesAtMost old.left 32 new.left
+  pub moved : Moved old new 96 96 32 2 1
+  pub strays : new.strays ≡ old.strays
+
+-- a file that was made: the storage is the header of an empty file of the builder's version and chunk size, under the id that stood in
+-- front of the random source; and with a hasher the kept tree is that of no chunks
+pub record Made (C : Cipher) (E : List ℕ → Hashing) (key : List ℕ) (s : Settings) (old : Outside) (now : Handle) : Type 0 where
+  pub can : CanMake E s
+  pub free : IsFree s old
+  pub key_is : now.key ≡ key
+  pub unmarked : now.broken ≡ false
+  pub limit : limit_of now ≡ s.most
+  pub quiet : Quiet old now.outside
+  pub header : now.header ≡ record { version = s.version; algorithm = C.id; chunk_size = s.chunk_size; file_size = 0; id = now.header.id }
+  pub taken : Takes old.left now.header.id now.outside.left
+  pub bytes : (b : List ℕ) → old.bytes ≡ Some b → now.outside.bytes ≡ Some (sealed_header C key now.header)
+  pub holds : (b : List ℕ) → old.bytes ≡ Some b → (F : File) × Holds C now F × (F.chunks ≡ [])
+  pub grown : (F : File) → F.chunks ≡ [] → WithTree E now (Grown F)
+  pub moved : Moved old now.outside 96 96 32 2 1
+  pub strays : now.outside.strays ≡ old.strays

@@ -1,0 +1,52 @@
+-- Commands on an open file, one after the other: what the code of a session hands on (this project's own).
+use Rattle.std.specs.Prelude.{◌≡◌, ℕ, true, false, List, length, Option, Some, Result}
+use Rattle.raf_io.specs.Source.{Takes}
+use Rattle.raf_tree.specs.Hashing.{Hashing}
+use Rattle.raf_format.specs.Cipher.{Cipher}
+use Rattle.raf_format.specs.File.{File}
+use Rattle.raf.specs.Apply.{file_after, longest}
+use Rattle.raf.specs.Image.{traced, asked_in, changes_in, traffic_in, calls_in}
+use Rattle.raf.specs.Outside.{Outside, Quiet, Moved}
+use Rattle.raf.specs.Handle.{Handle, Holds, WithTree, Grown, limit_of}
+use Rattle.raf.specs.Session.{Ground, AllAnswer, AllAuthentic, settled_after, IsDurable, Ran}
+use Rattle.raf.specs.declared.command.Command.{Command}
+use Rattle.raf.specs.declared.command.Reply.{Reply}
+use Rattle.raf_io.specs.declared.errors.Error.{Error}
+
+-- what a session on this handle stands on
+abbrev pub ground : Cipher → (List ℕ → Hashing) → Handle → Ground
+ground C E h = record { cipher = C; answers = E; setting = h.outside.setting; limit = limit_of h; key = h.key }
+
+-- commands without a fault so far, over a storage that tells
+pub record SoFar (C : Cipher) (E : List ℕ → Hashing) (old now : Handle) (F : File) (b : List ℕ) (commands : List Command) (replies : List Reply) : Type 0 where
+  pub played : AllAnswer (ground C E old) F commands replies
+  pub nonces : List ℕ
+  pub drawn : length nonces ≡ asked_in (limit_of old) F commands
+  pub taken : Takes old.outside.left nonces now.outside.left
+  pub tells : now.outside.bytes ≡ Some (traced (limit_of old) C old.key F commands nonces b)
+  pub holds : Holds C now (file_after (limit_of old) F commands)
+  pub grown : WithTree E now (Grown (file_after (limit_of old) F commands))
+  pub authentic : AllAuthentic (ground C E old) F commands nonces b
+  pub moved : Moved old.outside now.outside (longest (limit_of old) F commands) (traffic_in (limit_of old) F commands) (asked_in (limit_of old) F commands)
+      (changes_in (limit_of old) F commands) (calls_in (limit_of old) F commands)
+  pub strays : now.outside.strays ≡ old.outside.strays
+  pub unmarked : now.broken ≡ false
+  pub settled : settled_after false commands ≡ true → IsDurable now.outside
+
+-- the same over any storage
+pub record Progress (C : Cipher) (E : List ℕ → Hashing) (old now : Handle) (commands : List Command) (replies : List Reply) : Type 0 where
+  pub told : (F : File) (held : Holds C old F) → WithTree E old (Grown F) → old.broken ≡ false → SoFar C E old now F held.bytes commands replies
+  pub quiet : old.broken ≡ false → Quiet old.outside now.outside
+  pub key : now.key ≡ old.key
+  pub limit : limit_of now ≡ limit_of old
+  pub setting : now.outside.setting ≡ old.outside.setting
+
+-- commands that are done, up to the first fault
+abbrev pub Ended : Cipher → (List ℕ → Hashing) → Handle → Handle → List Command → List Reply → Type 0
+Ended C E old new commands replies =
+    (F : File) (held : Holds C old F) → WithTree E old (Grown F) → old.broken ≡ false → Ran (ground C E old) F held.bytes commands old.outside new.outside replies
+
+-- how a session ended
+pub record End : Type 0 where
+  pub outcome : Result (List Reply) Error
+  pub outside : Outside

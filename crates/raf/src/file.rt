@@ -1,0 +1,173 @@
+//! An open file, and its calls.
+ghost use Rattle.std.specs.Prelude.{◌≡◌, ◌+◌, ◌<◌, ◌≤◌, List, ℕ, length, take, drop, Some, Option, IfOk, IfErr, OnOk, OnErr, IsErr, true, false};
+ghost use Rattle.std.specs.Option.{option_map};
+ghost use Rattle.raf_format.specs.Cipher.{cipher_of};
+ghost use Rattle.raf_format.specs.File.{File};
+ghost use Rattle.raf.specs.Handle.{Holds, hash_len_of};
+ghost use Rattle.raf.specs.Read.{OldOrOpened};
+ghost use Rattle.raf.specs.Stepped.{Stepped, read_reply, write_reply, done_reply, verify_reply, commitment_reply};
+ghost use Rattle.raf_io.specs.Kinds.{kind_of};
+
+use crate::changing::{truncate_to, write_bytes};
+use crate::command::Command;
+use crate::opening::OpenFile;
+use crate::outside::Parts;
+use crate::reading::read_bytes;
+use raf_format::Algorithm;
+use raf_io::{Error, ErrorKind, RafIo, RafRng, Reason};
+use raf_tree::MerkleHasher;
+use std::marker::Model;
+
+/// An encrypted file that is open: it stands on a storage, a source of random bytes and, where it has one, a hasher.
+pub struct Raf<A: Algorithm, I: RafIo, R: RafRng, H: MerkleHasher> {
+    parts: Parts<I, R, H>,
+    file: OpenFile<A>,
+}
+
+impl<A: Algorithm, I: RafIo, R: RafRng, H: MerkleHasher> Model for Raf<A, I, R, H> {
+    ghost use Rattle.raf.specs.Handle.{Handle, Paired};
+
+    ghost Value = { Handle };
+
+    ghost view = { λ r. record {
+      outside = r.parts;
+      key = A.key_list r.file.key;
+      header = r.file.header;
+      tree = r.file.tree;
+      broken = r.file.broken;
+    } };
+
+    ghost invariant = { λ r. Paired H.hashing r.parts.setting r.file.tree };
+}
+
+impl<A: Algorithm, I: RafIo, R: RafRng, H: MerkleHasher> Drop for Raf<A, I, R, H> {
+    fn drop(self) {
+        let Raf { parts: _, file: _ } = self;
+    }
+}
+
+impl<A: Algorithm, I: RafIo, R: RafRng, H: MerkleHasher> Raf<A, I, R, H> {
+    /// The bytes from an offset on, as many as the buffer has, that lie below the size: how many they are. After a refusal each place of
+    /// the buffer has its old byte, or one of a chunk that opened.
+    pub fn read(&mut self, buf: &mut [u8], offset: u64) -> Result<usize, Error>
+        ensures stepped { Stepped (cipher_of A.variant) H.hashing self.old self.new (Command.Read offset (length buf.old)) (read_reply buf.new result) }
+        ensures rest { IfOk result (λ n. drop n buf.new ≡ drop n buf.old) }
+        ensures refused { (F : File) → Holds (cipher_of A.variant) self.old F → OnErr result (OldOrOpened F offset buf.old buf.new) }
+    {
+        if self.file.broken {
+            return Err(Error::Broken);
+        }
+        read_bytes::<A, I, R, H>(&mut self.parts, &mut self.file, buf, offset)
+    }
+
+    /// Puts these bytes at an offset, all of them. A gap between the size and the offset becomes zeros.
+    pub fn write(&mut self, buf: &[u8], offset: u64) -> Result<usize, Error>
+        ensures stepped { Stepped (cipher_of A.variant) H.hashing self.old self.new (Command.Write offset buf.now) (write_reply result) }
+    {
+        if self.file.broken {
+            return Err(Error::Broken);
+        }
+        write_bytes::<A, I, R, H>(&mut self.parts, &mut self.file, buf, offset)
+    }
+
+    /// Makes the file this long. Bytes that are added are zeros.
+    pub fn truncate(&mut self, size: u64) -> Result<(), Error>
+        ensures stepped { Stepped (cipher_of A.variant) H.hashing self.old self.new (Command.Truncate size) (done_reply result) }
+    {
+        if self.file.broken {
+            return Err(Error::Broken);
+        }
+        truncate_to::<A, I, R, H>(&mut self.parts, &mut self.file, size)
+    }
+
+    /// How long the file is. Where a change was cut short, it is the size as that change began.
+    pub fn size(&self) -> u64
+        ensures { result ≡ self.now.header.file_size }
+    {
+        self.file.header.file_size
+    }
+
+    /// The layout's version.
+    pub fn version(&self) -> u8
+        ensures { result ≡ self.now.header.version }
+    {
+        self.file.header.version
+    }
+
+    /// Makes the storage durable.
+    pub fn sync(&mut self) -> Result<(), Error>
+        ensures stepped { Stepped (cipher_of A.variant) H.hashing self.old self.new Command.Sync (done_reply result) }
+    {
+        if self.file.broken {
+            return Err(Error::Broken);
+        }
+        self.parts.sync()
+    }
+
+    /// Makes the tree anew from the chunks.
+    pub fn merkle_rebuild(&mut self) -> Result<(), Error>
+        ensures stepped { Stepped (cipher_of A.variant) H.hashing self.old self.new Command.Rebuild (done_reply result) }
+    {
+        Err(Error::Broken)
+    }
+
+    /// The first chunk that doesn't open or whose leaf differs from the tree's.
+    pub fn merkle_verify(&mut self) -> Result<Option<u64>, Error>
+        ensures stepped { Stepped (cipher_of A.variant) H.hashing self.old self.new Command.Verify (verify_reply result) }
+    {
+        Err(Error::Broken)
+    }
+
+    /// The tree's commitment, in front of the buffer. A buffer that is shorter than a hash is refused.
+    pub fn merkle_commitment(&mut self, out: &mut [u8]) -> Result<(), Error>
+        ensures stepped { hash_len_of H.hashing self.old.outside.setting ≤ length out.old →
+            Stepped (cipher_of A.variant) H.hashing self.old self.new Command.Commitment (commitment_reply (take (hash_len_of H.hashing self.old.outside.setting) out.new) result) }
+        ensures broken { self.old.broken ≡ true → IfErr result (λ e. kind_of e ≡ ErrorKind.Broken) × IsErr result × (self.new ≡ self.old) }
+        ensures short { self.old.broken ≡ false → length out.old < hash_len_of H.hashing self.old.outside.setting →
+            IfErr result (λ e. kind_of e ≡ ErrorKind.InvalidArgument Reason.CommitmentBuffer) × IsErr result × (self.new ≡ self.old) }
+        ensures rest { OnOk result (drop (hash_len_of H.hashing self.old.outside.setting) out.new ≡ drop (hash_len_of H.hashing self.old.outside.setting) out.old) }
+        ensures kept { OnErr result (drop (hash_len_of H.hashing self.old.outside.setting) out.new ≡ drop (hash_len_of H.hashing self.old.outside.setting) out.old) }
+    {
+        let _ = out;
+        Err(Error::Broken)
+    }
+
+    /// How long a hash is, or None exactly where there is no hasher.
+    pub fn hash_len(&self) -> Option<usize>
+        ensures { result ≡ option_map (λ s. (H.hashing s).len) self.now.outside.setting }
+    {
+        match &self.parts.hasher {
+            Some(hasher) => Some(hasher.hash_len()),
+            None => None,
+        }
+    }
+
+    /// The storage. What it holds afterwards is the caller's affair: the file's calls state what they do over a storage whose first 96
+    /// bytes and whose length are as before.
+    pub fn storage_mut(&mut self) -> &mut I {
+        &mut self.parts.io
+    }
+
+    /// Storage, random source and hasher come back.
+    pub fn close(self) -> Parts<I, R, H>
+        ensures { result ≡ self.outside }
+    {
+        let Raf { parts, file: _ } = self;
+        parts
+    }
+
+    /// The storage comes back.
+    pub fn into_io(self) -> I
+        ensures bytes { I.bytes result ≡ self.outside.bytes }
+        ensures durable { I.durable result ≡ self.outside.durable }
+        ensures counts { (I.faults result ≡ self.outside.io_faults) × (I.reach result ≡ self.outside.reach) × (I.traffic result ≡ self.outside.traffic)
+            × (I.changes result ≡ self.outside.changes) × (I.strays result ≡ self.outside.strays) }
+    {
+        let Parts {
+            io,
+            rng: _,
+            hasher: _,
+        } = self.close();
+        io
+    }
+}
