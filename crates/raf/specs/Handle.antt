@@ -1,5 +1,5 @@
 -- An open file as its caller sees it, and the file that it holds (this project's own).
-use Rattle.std.specs.Prelude.{◌≡◌, ℕ, ◌+◌, Bool, true, if◌then◌else◌, List, [], ◌∷◌, map, Option, Some, None, ⊤, ◌⊎◌}
+use Rattle.std.specs.Prelude.{◌≡◌, ℕ, ◌+◌, ◌≤◌, Bool, true, if◌then◌else◌, List, [], ◌∷◌, map, Option, Some, None, ⊤, ◌⊎◌}
 use Rattle.std.specs.Option.{option_map}
 use Rattle.raf_tree.specs.Hashing.{Hashing}
 use Rattle.raf_tree.specs.Kept.{Kept, Keeps, kept, tree_height}
@@ -90,3 +90,7 @@ Paired E None None = ⊤
 Paired E None (Some t) = ⊥
 Paired E (Some setting) None = ⊥
 Paired E (Some setting) (Some t) = (E setting).len ≡ t.hash_len
+
+-- a tree, where there is one, has room for so many chunks
+abbrev pub HasRoom : ℕ → Option Kept → Type 0
+HasRoom count tree = (t : Kept) → tree ≡ Some t → count ≤ t.max_chunks

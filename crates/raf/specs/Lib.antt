@@ -11,5 +11,7 @@ pub mod Stepped
 pub mod Loaded
 pub mod Opening
 pub mod Read
+pub mod Plan
+pub mod Put
 pub mod Session
 pub mod Ran

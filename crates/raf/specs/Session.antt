@@ -1,6 +1,6 @@
 -- What a session answers (this project's own).
 use Rattle.std.specs.Prelude.{◌≡◌, ℕ, ◌+◌, ◌-◌, ◌*◌, ◌^◌, ◌<◌, ◌≤◌, max, Bool, true, false, List, [], ◌∷◌, ◌++◌, length, take, drop, replicate, Option, Some, None, unwrap_or, Result, IfOk, IfErr, ⊤, ◌⊎◌}
-use Rattle.raf_io.specs.Source.{Takes, TakesAtMost}
+use Rattle.raf_io.specs.Source.{Takes, TakesAtMost, IsShort}
 use Rattle.raf_tree.specs.Hashing.{Hashing}
 use Rattle.raf_tree.specs.Tree.{root, leaves, height}
 use Rattle.raf_format.specs.Cipher.{Cipher}

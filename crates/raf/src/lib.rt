@@ -11,6 +11,7 @@ mod loading;
 mod opening;
 mod outside;
 mod overwriting;
+mod planning;
 mod reading;
 mod serving;
 

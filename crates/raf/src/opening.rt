@@ -4,6 +4,7 @@ ghost use Rattle.raf_format.specs.Cipher.{cipher_of};
 ghost use Rattle.raf.specs.Loaded.{Front};
 ghost use Rattle.raf_format.specs.File.{IsFile, shape_of, chunk_count, layout_len};
 ghost use Rattle.raf_format.specs.Version.{tag_len_of};
+ghost use Rattle.raf.specs.Handle.{HasRoom};
 ghost use Rattle.raf.specs.Loaded.{Sound};
 ghost use Rattle.raf.specs.Outside.{Kept, Quiet, Moved};
 ghost use Rattle.raf.specs.Opening.{LaidOut, WhyNotLaidOut, WhyNotOpened, Settings, RefusalFault};
@@ -34,6 +35,7 @@ pub struct OpenFile<A: Algorithm> {
     ghost first_room: { length first.items ≡ (cipher_of A.variant).nonce_len + header.chunk_size + tag_len_of header.version },
     ghost second_room: { length second.items ≡ (cipher_of A.variant).nonce_len + header.chunk_size + tag_len_of header.version },
     ghost sound: { Sound (cipher_of A.variant) header },
+    ghost room: { HasRoom (chunk_count header.chunk_size header.file_size) tree },
     ghost derived: { A.key_list chunk_key ≡ (cipher_of A.variant).chunk_key (A.key_list key) header.id },
 }
 
