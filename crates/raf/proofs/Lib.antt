@@ -20,3 +20,6 @@ pub mod Sizes
 pub mod Opened
 pub mod Ends
 pub mod NotOpened
+pub mod Grown
+pub mod Headed
+pub mod Openings

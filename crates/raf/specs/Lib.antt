@@ -15,3 +15,4 @@ pub mod Plan
 pub mod Put
 pub mod Session
 pub mod Ran
+pub mod Growing

@@ -4,8 +4,10 @@
 mod builder;
 mod changing;
 mod command;
+mod creating;
 mod data;
 mod file;
+mod growing;
 mod laws;
 mod loading;
 mod opening;

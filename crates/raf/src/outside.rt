@@ -3,8 +3,10 @@ ghost use Rattle.std.specs.Prelude.{◌≡◌, ◌+◌, ◌^◌, ◌<◌, ◌≤
 ghost use Rattle.std.specs.Option.{option_map};
 ghost use Rattle.raf_io.specs.Storage.{spliced, Told, ReadsFrom, Torn, IsLengthOf, Strays, SyncedTo};
 ghost use Rattle.raf_io.specs.Source.{Takes, TakesAtMost};
-ghost use Rattle.raf_tree.specs.Kept.{Kept, kept};
-ghost use Rattle.raf.specs.Handle.{Paired};
+ghost use Rattle.raf_tree.specs.Kept.{Kept};
+ghost use Rattle.raf_tree.specs.Steps.{LeafPut};
+ghost use Rattle.counts.specs.Counts.{raised};
+ghost use Rattle.raf.specs.Handle.{Paired, SameShapes, OverTrees};
 ghost use Rattle.raf.specs.Outside.{Quiet, Caused, Moved, counted, Kept as Kept_};
 ghost use Rattle.raf_io.specs.Kinds.{kind_of};
 
@@ -135,8 +137,9 @@ impl<I: RafIo, R: RafRng, H: MerkleHasher> Parts<I, R, H> {
         requires paired { Paired H.hashing self.old.setting tree.old }
         requires index { (t : Kept) → tree.old ≡ Some t → index < t.max_chunks }
         requires chunk { length chunk.now ≤ 2 ^ 60 }
-        ensures put { (t : Kept) (s : List ℕ) → tree.new ≡ Some t → self.old.setting ≡ Some s → OnOk result (kept t 0 index ≡ (H.hashing s).leaf chunk.now index) }
-        ensures paired { Paired H.hashing self.new.setting tree.new }
+        ensures put { OnOk result (OverTrees H.hashing self.old.setting tree.old tree.new (λ K t u. LeafPut index (K.leaf chunk.now index) t u)) }
+        ensures shapes { SameShapes tree.old tree.new }
+        ensures asked { (t : Kept) → tree.old ≡ Some t → self.new.calls ≡ raised self.old.calls 1 }
         ensures kept { Kept_ self.old self.new }
         ensures failed { IfErr result (λ e. (kind_of e ≡ ErrorKind.Hash) × Caused ErrorKind.Hash self.old self.new) }
         ensures quiet { OnOk result (Quiet self.old self.new) }
