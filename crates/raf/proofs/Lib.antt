@@ -20,3 +20,5 @@ pub mod Sizes
 pub mod Opened
 pub mod Ends
 pub mod NotOpened
+pub mod Placed
+pub mod Spans
