@@ -6,9 +6,11 @@ ghost use Rattle.raf.specs.Handle.{handle_of, Paired, HasRoom};
 ghost use Rattle.raf.specs.Plan.{Planned};
 ghost use Rattle.raf.specs.Put.{Changing};
 
+use crate::committing::commit;
 use crate::opening::OpenFile;
 use crate::outside::Parts;
 use crate::planning::Plan;
+use crate::preparing::prepare;
 use raf_format::Algorithm;
 use raf_io::{Error, RafIo, RafRng};
 use raf_tree::MerkleHasher;
@@ -19,17 +21,46 @@ pub fn change<A: Algorithm, I: RafIo, R: RafRng, H: MerkleHasher>(
     parts: &mut Parts<I, R, H>,
     file: &mut OpenFile<A>,
     plan: &Plan,
-    data: &[u8],
+    bytes: &[u8],
 ) -> Result<(), Error>
     requires unmarked { file.old.broken ≡ false }
-    requires planned { Planned (shape_of (cipher_of A.variant) file.old.header) plan.now (length data.now) }
+    requires planned { Planned (shape_of (cipher_of A.variant) file.old.header) plan.now (length bytes.now) }
     requires size { plan.now.before ≡ file.old.header.file_size }
     requires paired { Paired H.hashing parts.old.setting file.old.tree }
     requires room { HasRoom plan.now.count file.old.tree }
-    ensures changing { Changing (cipher_of A.variant) H.hashing (A.key_list file.old.chunk_key) plan.now data.now
+    ensures changing { Changing (cipher_of A.variant) H.hashing (A.key_list file.old.chunk_key) plan.now bytes.now
         (handle_of parts.old (A.key_list file.old.key) file.old.header file.old.tree file.old.broken)
         (handle_of parts.new (A.key_list file.new.key) file.new.header file.new.tree file.new.broken) result }
     ensures paired { Paired H.hashing parts.new.setting file.new.tree }
 {
-    Ok(())
+    prepare::<A, I, R, H>(
+        parts,
+        &file.chunk_key,
+        &file.header,
+        plan,
+        bytes.len(),
+        &mut file.first,
+        &mut file.second,
+    )?;
+    let result = commit::<A, I, R, H>(
+        parts,
+        &mut file.tree,
+        &file.key,
+        &file.chunk_key,
+        &file.header,
+        plan,
+        bytes,
+        &mut file.first,
+        &mut file.second,
+    );
+    match result {
+        Ok(()) => {
+            file.header.file_size = plan.size;
+            Ok(())
+        }
+        Err(e) => {
+            file.broken = true;
+            Err(e)
+        }
+    }
 }
