@@ -22,3 +22,5 @@ pub mod Ends
 pub mod NotOpened
 pub mod Placed
 pub mod Spans
+pub mod Overlaid
+pub mod Pieces

@@ -71,6 +71,10 @@ fn stage_chunk(chunk: &mut [u8], kept: usize, start: u64, offset: u64, bytes: &[
     let skip = offset.saturating_sub(start).min(chunk.len() as u64) as usize;
     let from = start.saturating_sub(offset).min(bytes.len() as u64) as usize;
     let n = (chunk.len() - skip).min(bytes.len() - from);
+    if n == chunk.len() {
+        chunk.copy_from_slice(&bytes[from..from + n]);
+        return;
+    }
     clear_from(chunk, kept);
     overwrite(chunk, skip, &bytes[from..from + n]);
 }

@@ -53,7 +53,8 @@ pub fn draw<A: Algorithm, I: RafIo, R: RafRng, H: MerkleHasher>(
     requires second_room { (cipher_of A.variant).nonce_len ≤ length second.old }
     ensures { Draws (cipher_of A.variant).nonce_len plan.now index first.old second.old parts.old parts.new first.new second.new result }
 {
-    if index + 1 < plan.end {
+    let end = plan.end;
+    if index + 1 < end {
         fill_front::<A, I, R, H>(parts, first)
     } else {
         fill_front::<A, I, R, H>(parts, second)
