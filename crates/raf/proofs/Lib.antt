@@ -24,3 +24,6 @@ pub mod Placed
 pub mod Spans
 pub mod Overlaid
 pub mod Pieces
+pub mod SameTrees
+pub mod Tears
+pub mod Stored

@@ -13,7 +13,8 @@ use raf_format::{Algorithm, Header, nonce_length};
 
 /// Where the record of a chunk stands, whatever the file's size is.
 pub fn place_of<A: Algorithm>(header: &Header, index: u64) -> u64
-    requires { record_start (shape_of (cipher_of A.variant) header.now) index < 2 ^ 64 }
+    requires most { header.now.chunk_size ≤ 1048576 }
+    requires below { record_start (shape_of (cipher_of A.variant) header.now) index < 2 ^ 64 }
     ensures { result ≡ record_start (shape_of (cipher_of A.variant) header.now) index }
 {
     let over = (nonce_length::<A>() + header.tag_len()) as u64;
@@ -31,7 +32,8 @@ pub fn chunk_len_at(header: &Header, size: u64, index: u64) -> usize
 
 /// How long the record of a chunk of a file of this size is.
 pub fn record_len_at<A: Algorithm>(header: &Header, size: u64, index: u64) -> usize
-    requires { index * header.now.chunk_size ≤ size }
+    requires most { header.now.chunk_size ≤ 1048576 }
+    requires begins { index * header.now.chunk_size ≤ size }
     ensures { result ≡ record_len (shape_of (cipher_of A.variant) header.now) size index }
 {
     nonce_length::<A>() + chunk_len_at(header, size, index) + header.tag_len()
