@@ -18,7 +18,8 @@ use Rattle.raf_io.specs.declared.errors.Error.{Error}
 use Rattle.raf_io.specs.declared.errors.ErrorKind.{ErrorKind}
 use Rattle.raf_io.specs.declared.errors.ErrorKind.TheVariants.{Io, InvalidArgument, AuthenticationFailed, AlreadyExists, NotFound, Overflow, MerkleNotEnabled, CorruptedChunk, Rng, Hash, Broken, OutOfMemory}
 use Rattle.raf.specs.Outside.{Outside, Kept, Quiet, Caused, Moved}
-use Rattle.raf.specs.Handle.{SameShapes, OverTrees, HasRoom}
+use Rattle.raf.specs.Handle.{HasRoom}
+use Rattle.raf.specs.Carry.{SameTree, OfTrees}
 use Rattle.raf.specs.Loaded.{Sound, Unopened}
 use Rattle.raf.specs.Read.{chunks_of}
 use Rattle.raf.specs.Session.{present}
@@ -30,11 +31,11 @@ use Rattle.raf.proofs.Moves.{moved_same, moved_less, moved_then, moved_counted, 
 pub same_shape : (t : Tree) → SameShape t t
 same_shape t = record { hash_len = refl; max_chunks = refl }
 
-pub shapes_same : (t : Option Tree) → SameShapes t t
+pub shapes_same : (t : Option Tree) → SameTree t t
 shapes_same None = tt
 shapes_same (Some t) = same_shape t
 
-pub shapes_then : (a b c : Option Tree) → SameShapes a b → SameShapes b c → SameShapes a c
+pub shapes_then : (a b c : Option Tree) → SameTree a b → SameTree b c → SameTree a c
 shapes_then None None None p q = tt
 shapes_then None None (Some z) p q = absurd q
 shapes_then None (Some y) c p q = absurd p
@@ -43,7 +44,7 @@ shapes_then (Some x) (Some y) None p q = absurd q
 shapes_then (Some x) (Some y) (Some z) p q = record { hash_len = q.hash_len ∙ p.hash_len; max_chunks = q.max_chunks ∙ p.max_chunks }
 
 -- the tree that one of the same size has become
-pub shaped_as : (a b : Option Tree) (t : Tree) → SameShapes a b → a ≡ Some t → (u : Tree) × (b ≡ Some u) × SameShape t u
+pub shaped_as : (a b : Option Tree) (t : Tree) → SameTree a b → a ≡ Some t → (u : Tree) × (b ≡ Some u) × SameShape t u
 shaped_as None b t shapes is = cc
 shaped_as (Some x) None t shapes is = absurd shapes
 shaped_as (Some x) (Some y) t shapes is = (y, refl, subst (λ (x : Tree). SameShape x y) (inner is) shapes)
@@ -146,7 +147,7 @@ module _ (C : Cipher) (E : List ℕ → Hashing) (K : List ℕ) (h : Header) (a 
         (moved_q : Moved p q (record_start (shape_of C h) index + record_len (shape_of C h) h.file_size index) (record_len (shape_of C h) h.file_size index) 0 0 0)
         (strays_q : (b : List ℕ) → p.bytes ≡ Some b → L ≤ length b → q.strays ≡ p.strays)
         (asked : (t : Tree) → tree ≡ Some t → r.calls ≡ raised q.calls 1) (some : is_some before ≡ true)
-        (shapes : SameShapes tree tree') (kept_r : Kept q r) (moved_r : Moved q r 0 0 0 0 1) (strays_r : r.strays ≡ q.strays) where
+        (shapes : SameTree tree tree') (kept_r : Kept q r) (moved_r : Moved q r 0 0 0 0 1) (strays_r : r.strays ≡ q.strays) where
       is_there : (o : Option Tree) → is_some o ≡ true → (t : Tree) × (o ≡ Some t)
       is_there None is = absurd (false≢true is)
       is_there (Some t) is = (t, refl)
@@ -190,7 +191,7 @@ module _ (C : Cipher) (E : List ℕ → Hashing) (K : List ℕ) (h : Header) (a 
 
       pub leaves_more : ((H : Hashing) → TreeLaws H) → HasRoom (chunk_count h.chunk_size h.file_size) before
           → ((b : List ℕ) → p.bytes ≡ Some b → chunk_at C K h b index ≡ Some chunk)
-          → OverTrees E q.setting tree tree' (λ H t u. LeafPut index (H.leaf chunk index) t u) → Quiet q r
+          → OfTrees E q.setting tree tree' (λ H t u. LeafPut index (H.leaf chunk index) t u) → Quiet q r
           → LeavesSoFar C E K h (index + 1) a r before tree' true
       leaves_more laws room opened put quiet_r = record {
         there = λ b tells i lt. elim (cases_lt i index) [
@@ -219,7 +220,7 @@ module _ (C : Cipher) (E : List ℕ → Hashing) (K : List ℕ) (h : Header) (a 
   -- all leaves were put, and then the nodes were made, or weren't
   module _ (p r : Outside) (tree tree' : Option Tree) (begun : Bool) (sound : Sound C h) (some : is_some before ≡ true)
       (all : LeavesSoFar C E K h (chunk_count h.chunk_size h.file_size) a p before tree begun)
-      (shapes : SameShapes tree tree') (kept_r : Kept p r) (moved_r : Moved p r 0 0 0 0 (r.calls - p.calls))
+      (shapes : SameTree tree tree') (kept_r : Kept p r) (moved_r : Moved p r 0 0 0 0 (r.calls - p.calls))
       (calls : (t : Tree) → tree ≡ Some t → r.calls ≤ p.calls + chunk_count h.chunk_size h.file_size + 2 * tree_height t + 1) (strays_r : r.strays ≡ p.strays) where
     moved_whole : Moved a r L (L - 96) 0 0 (r.calls - a.calls)
     moved_whole =
@@ -232,7 +233,7 @@ module _ (C : Cipher) (E : List ℕ → Hashing) (K : List ℕ) (h : Header) (a 
         let high : tree_height u.0 ≡ tree_height t = ap Rattle.raf_tree.specs.Tree.height u.2.max_chunks in
         omega (arith, calls u.0 u.1, high, all.moved.calls_most)
 
-    pub grew_built : Quiet p r → OverTrees E p.setting tree tree' (λ H t u. Built H (chunk_count h.chunk_size h.file_size) t u)
+    pub grew_built : Quiet p r → OfTrees E p.setting tree tree' (λ H t u. Built H (chunk_count h.chunk_size h.file_size) t u)
         → ((H : Hashing) → TreeLaws H) → Grew C E K h a r before tree' true (Ok tt)
     grew_built quiet_r built laws = record {
       there = λ b tells. all.there b tells;
@@ -271,7 +272,7 @@ module _ (C : Cipher) (E : List ℕ → Hashing) (K : List ℕ) (h : Header) (a 
         other : Hash ≡ AuthenticationFailed → ⊥
         other same = cc
 
-    pub grew_ended : (result : Result (Unit {0}) Error) → OnOk result (Quiet p r) → OnOk result (OverTrees E p.setting tree tree' (λ H t u. Built H (chunk_count h.chunk_size h.file_size) t u))
+    pub grew_ended : (result : Result (Unit {0}) Error) → OnOk result (Quiet p r) → OnOk result (OfTrees E p.setting tree tree' (λ H t u. Built H (chunk_count h.chunk_size h.file_size) t u))
         → IfErr result (λ e. (kind_of e ≡ Hash) × Caused Hash p r × Rose p.calls r.calls) → ((H : Hashing) → TreeLaws H) → Grew C E K h a r before tree' true result
     grew_ended (Ok _) quiet built why laws = grew_built quiet built laws
     grew_ended (Err e) quiet built why laws = grew_unbuilt e why

@@ -23,3 +23,10 @@ pub mod NotOpened
 pub mod Grown
 pub mod Headed
 pub mod Openings
+pub mod Placed
+pub mod Spans
+pub mod Overlaid
+pub mod Pieces
+pub mod SameTrees
+pub mod Tears
+pub mod Stored

@@ -17,7 +17,8 @@ use Rattle.raf_io.specs.declared.errors.ErrorKind.{ErrorKind}
 use Rattle.raf_io.specs.declared.errors.ErrorKind.TheVariants.{Io, InvalidArgument, AuthenticationFailed, AlreadyExists, NotFound, Overflow, MerkleNotEnabled, CorruptedChunk, Rng, Hash, Broken, OutOfMemory}
 use Rattle.raf.specs.Outside.{Outside, Kept, Quiet, Moved}
 use Rattle.raf.specs.Concern.{none_missing}
-use Rattle.raf.specs.Handle.{Handle, Holds, WithTree, Grown, Paired, SameShapes, handle_of, limit_of}
+use Rattle.raf.specs.Handle.{Handle, Holds, WithTree, Grown, Paired, handle_of, limit_of}
+use Rattle.raf.specs.Carry.{SameTree}
 use Rattle.raf.specs.Read.{chunks_of}
 use Rattle.raf.specs.Session.{present}
 use Rattle.raf.specs.Growing.{Grew, Ungrown}
@@ -45,14 +46,14 @@ no_tree None t is other = cc
 no_tree (Some u) t is other = cc
 
 -- the limit of a tree of the same size
-shapes_limit : (a b : Option Tree) → SameShapes a b → option_map (λ (t : Tree). t.max_chunks) b ≡ option_map (λ (t : Tree). t.max_chunks) a
+shapes_limit : (a b : Option Tree) → SameTree a b → option_map (λ (t : Tree). t.max_chunks) b ≡ option_map (λ (t : Tree). t.max_chunks) a
 shapes_limit None None s = refl
 shapes_limit (Some t) (Some u) s = ap (λ (n : ℕ). Some n) s.max_chunks
 shapes_limit None (Some u) s = absurd s
 shapes_limit (Some t) None s = absurd s
 
 -- the tree that one of the same size was
-shaped_from : (a b : Option Tree) (u : Tree) → SameShapes a b → b ≡ Some u → (t : Tree) × (a ≡ Some t)
+shaped_from : (a b : Option Tree) (u : Tree) → SameTree a b → b ≡ Some u → (t : Tree) × (a ≡ Some t)
 shaped_from (Some t) b u s is = (t, refl)
 shaped_from None (Some x) u s is = absurd s
 shaped_from None None u s is = cc

@@ -15,7 +15,7 @@ use Rattle.raf_io.specs.declared.errors.ErrorKind.TheVariants.{Io, Authenticatio
 use Rattle.raf.specs.Outside.{Outside, Kept, Quiet, Caused, Moved}
 use Rattle.raf.specs.Read.{chunks_of}
 use Rattle.raf.specs.Session.{present}
-use Rattle.raf.specs.Handle.{SameShapes, OverTrees}
+use Rattle.raf.specs.Carry.{SameTree, OfTrees}
 
 -- why no tree was made: the storage or the hasher failed, or a chunk is missing
 abbrev pub Ungrown : ErrorKind → Outside → Outside → Type 0
@@ -27,8 +27,8 @@ Ungrown _ old new = ⊥
 -- the leaves of the chunks before an index were put, and each of these chunks is there
 pub record LeavesSoFar (C : Cipher) (E : List ℕ → Hashing) (chunk_key : List ℕ) (h : Header) (index : ℕ) (old now : Outside) (before tree : Option Tree) (begun : Bool) : Type 0 where
   pub there : (b : List ℕ) → old.bytes ≡ Some b → (i : ℕ) → i < index → (m : List ℕ) × (chunk_at C chunk_key h b i ≡ Some m)
-  pub put : (b : List ℕ) → old.bytes ≡ Some b → OverTrees E old.setting before tree (λ H _ u. Since H [] (leaves H (present (chunks_of C chunk_key h b))) 0 index u)
-  pub shapes : SameShapes before tree
+  pub put : (b : List ℕ) → old.bytes ≡ Some b → OfTrees E old.setting before tree (λ H _ u. Since H [] (leaves H (present (chunks_of C chunk_key h b))) 0 index u)
+  pub shapes : SameTree before tree
   pub quiet : Quiet old now
   pub kept : Kept old now
   pub moved : Moved old now (layout_len (shape_of C h) h.file_size) (min (record_start (shape_of C h) index) (layout_len (shape_of C h) h.file_size) - 96) 0 0 index
@@ -40,7 +40,7 @@ pub record LeavesSoFar (C : Cipher) (E : List ℕ → Hashing) (chunk_key : List
 pub record LeavesStopped (C : Cipher) (chunk_key : List ℕ) (h : Header) (old now : Outside) (before tree : Option Tree) (begun : Bool) (e : Error) : Type 0 where
   pub missing : (b : List ℕ) → old.bytes ≡ Some b → kind_of e ≡ AuthenticationFailed → (i : ℕ) × (i < chunk_count h.chunk_size h.file_size) × (chunk_at C chunk_key h b i ≡ None)
   pub kind : Ungrown (kind_of e) old now
-  pub shapes : SameShapes before tree
+  pub shapes : SameTree before tree
   pub kept : Kept old now
   pub moved : Moved old now (layout_len (shape_of C h) h.file_size) (layout_len (shape_of C h) h.file_size - 96) 0 0 (chunk_count h.chunk_size h.file_size)
   pub strays : (b : List ℕ) → old.bytes ≡ Some b → layout_len (shape_of C h) h.file_size ≤ length b → now.strays ≡ old.strays
@@ -49,12 +49,12 @@ pub record LeavesStopped (C : Cipher) (chunk_key : List ℕ) (h : Header) (old n
 -- the tree was made anew, or why not. `begun` says that a hash was asked
 pub record Grew (C : Cipher) (E : List ℕ → Hashing) (chunk_key : List ℕ) (h : Header) (old new : Outside) (before tree : Option Tree) (begun : Bool) (result : Result (Unit {0}) Error) : Type 0 where
   pub there : (b : List ℕ) → old.bytes ≡ Some b → OnOk result ((i : ℕ) → i < chunk_count h.chunk_size h.file_size → (m : List ℕ) × (chunk_at C chunk_key h b i ≡ Some m))
-  pub grown : (b : List ℕ) → old.bytes ≡ Some b → OnOk result (OverTrees E old.setting before tree (λ H _ u. Keeps H u (leaves H (present (chunks_of C chunk_key h b)))))
+  pub grown : (b : List ℕ) → old.bytes ≡ Some b → OnOk result (OfTrees E old.setting before tree (λ H _ u. Keeps H u (leaves H (present (chunks_of C chunk_key h b)))))
   pub missing : (b : List ℕ) → old.bytes ≡ Some b
       → IfErr result (λ e. kind_of e ≡ AuthenticationFailed → (i : ℕ) × (i < chunk_count h.chunk_size h.file_size) × (chunk_at C chunk_key h b i ≡ None))
   pub kinds : IfErr result (λ e. Ungrown (kind_of e) old new)
   pub quiet : OnOk result (Quiet old new)
-  pub shapes : SameShapes before tree
+  pub shapes : SameTree before tree
   pub kept : Kept old new
   pub moved : Moved old new (layout_len (shape_of C h) h.file_size) (layout_len (shape_of C h) h.file_size - 96) 0 0 (new.calls - old.calls)
   pub calls : (t : Tree) → before ≡ Some t → new.calls ≤ old.calls + 2 * chunk_count h.chunk_size h.file_size + 2 * tree_height t + 1

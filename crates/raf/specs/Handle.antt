@@ -3,7 +3,6 @@ use Rattle.std.specs.Prelude.{◌≡◌, ℕ, ◌+◌, ◌≤◌, Bool, true, if
 use Rattle.std.specs.Option.{option_map}
 use Rattle.raf_tree.specs.Hashing.{Hashing}
 use Rattle.raf_tree.specs.Kept.{Kept, Keeps, kept, tree_height}
-use Rattle.raf_tree.specs.Steps.{SameShape}
 use Rattle.raf_tree.specs.Tree.{leaves}
 use Rattle.raf_format.specs.Cipher.{Cipher}
 use Rattle.raf_format.specs.File.{File, IsFile, shape_of, file_of}
@@ -95,14 +94,3 @@ Paired E (Some setting) (Some t) = (E setting).len ≡ t.hash_len
 -- a tree, where there is one, has room for so many chunks
 abbrev pub HasRoom : ℕ → Option Kept → Type 0
 HasRoom count tree = (t : Kept) → tree ≡ Some t → count ≤ t.max_chunks
-
--- two trees of one size, or none
-abbrev pub SameShapes : Option Kept → Option Kept → Type 0
-SameShapes None None = ⊤
-SameShapes (Some t) (Some u) = SameShape t u
-SameShapes None (Some u) = ⊥
-SameShapes (Some t) None = ⊥
-
--- where there is a hasher under this setting, and a tree before and after, this holds of its answers and of both
-abbrev pub OverTrees : (List ℕ → Hashing) → Option (List ℕ) → Option Kept → Option Kept → (Hashing → Kept → Kept → Type 0) → Type 0
-OverTrees E setting old new P = (x : List ℕ) (t u : Kept) → setting ≡ Some x → old ≡ Some t → new ≡ Some u → P (E x) t u

@@ -13,6 +13,7 @@ pub mod Opening
 pub mod Read
 pub mod Plan
 pub mod Put
+pub mod Carry
 pub mod Session
 pub mod Ran
 pub mod Growing

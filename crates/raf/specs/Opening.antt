@@ -1,5 +1,5 @@
 -- How a file is opened and made, and why not (this project's own).
-use Rattle.std.specs.Prelude.{◌≡◌, ◌≢◌, ℕ, ◌+◌, ◌*◌, ◌<◌, ◌≤◌, min, Bool, true, false, List, [], length, max, Option, Some, None, ⊤, ◌⊎◌, is_some}
+use Rattle.std.specs.Prelude.{◌≡◌, ◌≢◌, ℕ, ◌+◌, ◌*◌, ◌<◌, ◌≤◌, min, Bool, true, false, List, [], length, max, Option, Some, None, Result, IfErr, OnOk, ⊤, ◌⊎◌, is_some}
 use Rattle.raf_tree.specs.Hashing.{Hashing}
 use Rattle.raf_tree.specs.Tree.{height}
 use Rattle.raf_tree.specs.Made.{CanBeMade, RefusesTree}
@@ -7,7 +7,12 @@ use Rattle.raf_tree.specs.declared.tree.TreeError.TheVariants as tree
 use Rattle.raf_format.specs.Cipher.{Cipher}
 use Rattle.raf_format.specs.Header.{Says, Tagged, sealed_header}
 use Rattle.raf_format.specs.File.{File, IsFile, Opens, shape_of, layout_len, chunk_count, file_of}
+use Rattle.counts.specs.Counts.{Rose}
+use Rattle.raf_io.specs.Kinds.{kind_of}
+use Rattle.raf_io.specs.declared.errors.Error.{Error}
 use Rattle.raf_io.specs.Source.{Takes, TakesAtMost, IsShort}
+use Rattle.raf_format.specs.Version.{version_number}
+use Rattle.raf.specs.declared.creating.Fresh.{Fresh}
 use Rattle.raf.specs.Concern.{none_missing}
 use Rattle.raf.specs.Outside.{Outside, Kept, Quiet, Caused, Moved}
 use Rattle.raf.specs.Handle.{Handle, Holds, WithTree, Grown, Paired, HasRoom, limit_of}
@@ -173,9 +178,27 @@ pub record CanMake (E : List ℕ → Hashing) (s : Settings) : Type 0 where
   pub chunk_size : IsChunkSize s.chunk_size
   pub room : Room E s.outside.setting s.most 0
 
+-- a builder's settings, from what it holds: how a new file is to be, the limit of a hasher's tree, and what was handed in
+pub record FreshOf (fresh : Fresh) (max_chunks : ℕ) (old : Outside) (s : Settings) : Type 0 where
+  pub version : s.version ≡ version_number fresh.version
+  pub chunk_size : s.chunk_size ≡ fresh.chunk_size
+  pub truncate : s.truncate ≡ fresh.truncate
+  pub most : s.most ≡ option_map (λ _. max_chunks) old.setting
+  pub setting : s.outside.setting ≡ old.setting
+
 -- the storage may become a new file: it is empty, or may be written over
 abbrev pub IsFree : Settings → Outside → Type 0
 IsFree s old = s.truncate ≡ false → (b : List ℕ) → old.bytes ≡ Some b → b ≡ []
+
+-- a header was put in place of what a storage of this many bytes holds, or the storage failed
+pub record PutNew (header : List ℕ) (size : ℕ) (old new : Outside) (result : Result (Unit {0}) Error) : Type 0 where
+  pub put : (b : List ℕ) → old.bytes ≡ Some b → length b ≡ size → OnOk result (new.bytes ≡ Some header)
+  pub failed : IfErr result (λ e. (kind_of e ≡ Io) × Caused Io old new)
+  pub quiet : OnOk result (Quiet old new)
+  pub left : new.left ≡ old.left
+  pub moved : Moved old new 96 96 0 2 0
+  pub began : Rose old.changes new.changes
+  pub strays : new.strays ≡ old.strays
 
 -- why no file was made, each cause where none before it stands
 abbrev pub WhyNotMade : (List ℕ → Hashing) → Settings → Outside → ErrorKind → Type 0

@@ -5,7 +5,9 @@ ghost use Rattle.raf_format.specs.Cipher.{cipher_of};
 ghost use Rattle.raf_format.specs.Version.{version_number};
 ghost use Rattle.raf_io.specs.Kinds.{kind_of};
 ghost use Rattle.raf.specs.Handle.{handle_of, Paired};
-ghost use Rattle.raf.specs.Opening.{Settings, Made, NotMade};
+ghost use Rattle.raf.specs.Opening.{Settings, Made, NotMade, FreshOf, PutNew};
+ghost use Rattle.raf_format.specs.Header.{InRange, sealed_header};
+ghost use Rattle.raf.specs.Outside.{Outside};
 
 use crate::growing::tree_for;
 use crate::opening::{OpenFile, rooms};
@@ -32,7 +34,9 @@ fn put_new<A: Algorithm, I: RafIo, R: RafRng, H: MerkleHasher>(
     key: &A::Key,
     header: &Header,
     size: u64,
-) -> Result<(), Error> {
+) -> Result<(), Error>
+    ensures { PutNew (sealed_header (cipher_of A.variant) (A.key_list key.now) header.now) size parts.old parts.new result }
+{
     let mut bytes = [0u8; 96];
     write_header::<A>(header, key, &mut bytes);
     parts.write(&bytes, 0)?;

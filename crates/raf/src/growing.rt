@@ -8,7 +8,8 @@ ghost use Rattle.raf_format.specs.Cipher.{cipher_of};
 ghost use Rattle.raf_format.specs.File.{chunk_count, chunk_len};
 ghost use Rattle.raf_format.specs.Version.{tag_len_of};
 ghost use Rattle.raf_io.specs.Kinds.{kind_of};
-ghost use Rattle.raf.specs.Handle.{Paired, HasRoom, SameShapes, OverTrees};
+ghost use Rattle.raf.specs.Handle.{Paired, HasRoom};
+ghost use Rattle.raf.specs.Carry.{SameTree, OfTrees};
 ghost use Rattle.raf.specs.Outside.{Quiet, Caused, Moved, Kept as Kept_};
 ghost use Rattle.raf.specs.Loaded.{Sound};
 ghost use Rattle.raf.specs.Opening.{TreeMade, WhyNoTree};
@@ -50,8 +51,8 @@ impl<I: RafIo, R: RafRng, H: MerkleHasher> Parts<I, R, H> {
     pub fn build(&mut self, tree: &mut Option<Tree>, count: u64) -> Result<(), Error>
         requires paired { Paired H.hashing self.old.setting tree.old }
         requires room { HasRoom count tree.old }
-        ensures built { OnOk result (OverTrees H.hashing self.old.setting tree.old tree.new (λ K t u. Built K count t u)) }
-        ensures shapes { SameShapes tree.old tree.new }
+        ensures built { OnOk result (OfTrees H.hashing self.old.setting tree.old tree.new (λ K t u. Built K count t u)) }
+        ensures shapes { SameTree tree.old tree.new }
         ensures kept { Kept_ self.old self.new }
         ensures failed { IfErr result (λ e. (kind_of e ≡ ErrorKind.Hash) × Caused ErrorKind.Hash self.old self.new × Rose self.old.calls self.new.calls) }
         ensures quiet { OnOk result (Quiet self.old self.new) }

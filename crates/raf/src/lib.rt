@@ -2,9 +2,11 @@
 #![tactic(auto)]
 
 mod builder;
+mod carrying;
 mod changing;
 mod command;
 mod creating;
+mod committing;
 mod data;
 mod file;
 mod growing;
@@ -14,8 +16,11 @@ mod opening;
 mod outside;
 mod overwriting;
 mod planning;
+mod preparing;
 mod reading;
 mod serving;
+mod staging;
+mod storing;
 
 pub use builder::{OpenError, RafBuilder};
 pub use command::{Command, Replies, Reply};
