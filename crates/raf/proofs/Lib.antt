@@ -26,6 +26,8 @@ pub mod Openings
 pub mod NewFiles
 pub mod Builders
 pub mod Makings
+pub mod Verified
+pub mod TreeSteps
 pub mod Placed
 pub mod Spans
 pub mod Overlaid

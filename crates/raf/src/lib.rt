@@ -19,6 +19,7 @@ mod planning;
 mod preparing;
 mod reading;
 mod serving;
+mod verifying;
 mod staging;
 mod storing;
 
