@@ -20,3 +20,10 @@ pub mod Sizes
 pub mod Opened
 pub mod Ends
 pub mod NotOpened
+pub mod Spans
+pub mod Placed
+pub mod Ranges
+pub mod Fills
+pub mod Imaged
+pub mod Finished
+pub mod Pictures
