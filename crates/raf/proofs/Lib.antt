@@ -27,3 +27,5 @@ pub mod Fills
 pub mod Imaged
 pub mod Finished
 pub mod Pictures
+pub mod Reopens
+pub mod Totals

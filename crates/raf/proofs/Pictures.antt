@@ -1,13 +1,13 @@
 -- A change that was carried out leaves the image of the new file.
-use Rattle.std.proofs.Common.{◌≡◌, ◌≢◌, inl, inr, ℕ, zero, suc, ◌+◌, ◌-◌, ◌*◌, ◌/◌, ◌<◌, ◌≤◌, min, max, Bool, true, false, cond, not, ◌&&◌, List, [], ◌∷◌, ◌++◌, length, take, drop, get_or, Option, Some, None, refl, sym, ◌∙◌, ap, subst, arith, length-take, length-drop}
+use Rattle.std.proofs.Common.{◌≡◌, ◌≢◌, inl, inr, ℕ, zero, suc, ◌+◌, ◌-◌, ◌*◌, ◌/◌, ◌<◌, ◌≤◌, min, max, Bool, true, false, cond, not, ◌&&◌, List, [], ◌∷◌, ◌++◌, length, take, drop, get_or, Option, Some, None, refl, sym, ◌∙◌, ap, subst, arith, length-take, length-drop, take-append-drop}
 use Rattle.std.specs.Prelude.{nat_lt, nat_le, nat_eq, unwrap_or, ◌⊎◌}
-use Rattle.std.proofs.lemmas.List.{take-take, nil_from_length}
+use Rattle.std.proofs.lemmas.List.{take-take, drop-take, nil_from_length}
 use Rattle.std.proofs.lemmas.Bool.{cases_lt, cases_eq}
 use Rattle.std.proofs.lemmas.Bool.Decides.{nat_tests}
 use Rattle.raf_io.specs.Storage.{resized}
 use Rattle.raf_tree.specs.Hashing.{Hashing}
 use Rattle.raf_format.specs.Cipher.{Cipher, IsLawful}
-use Rattle.raf_format.specs.Header.{sealed_header}
+use Rattle.raf_format.specs.Header.{head_of, header_tag, sealed_header}
 use Rattle.raf_format.specs.File.{File, Shape, IsFile, shape_of, tag_len, sealed, record_at, chunk_count, chunk_len, layout_len, chunk_at, chunks_from, file_of}
 use Rattle.raf.specs.Concern.{is_touched}
 use Rattle.raf.specs.Apply.{overlaid, rebuilt, new_chunk, renewed, after}
@@ -130,3 +130,78 @@ module _ (C : Cipher) (lawful : IsLawful C) (key b : List ℕ) (h : Header) (K :
 
   pub new_header : with_size h K.size ≡ header_of C (after F K)
   new_header = (λ j. record { version = h.version; algorithm = is_file.algorithm j; chunk_size = h.chunk_size; file_size = K.size; id = h.id })
+
+  spans : Spans h.chunk_size h.file_size K.size (K.from / h.chunk_size) (chunk_count h.chunk_size K.end)
+  spans = planned_spans s least h.file_size K ranged
+
+  pub tests : (i : ℕ) → is_touched F K i ≡ (nat_le (K.from / h.chunk_size) i && nat_lt i (chunk_count h.chunk_size K.end))
+  tests = touched_ranged s least h.file_size K ranged F refl
+
+  pub renewed_at : (i : ℕ) → i < chunk_count h.chunk_size K.size → get_or (after F K).chunks i None ≡ renewed F K i (old_at i)
+  renewed_at i lt =
+      let e : 0 + i ≡ i = omega arith in
+      rebuilt_at (renewed F K) 0 (chunk_count h.chunk_size K.size) i F.chunks lt ∙ ap (λ (j : ℕ). renewed F K j (old_at i)) e
+
+  -- a touched chunk is the new one, and any other stays
+  pub chunk_is : (i : ℕ) → K.from / h.chunk_size ≤ i → i < chunk_count h.chunk_size K.end → get_or (after F K).chunks i None ≡ Some (made i)
+  chunk_is i le lt =
+      let inside : nat_le (K.from / h.chunk_size) i && nat_lt i (chunk_count h.chunk_size K.end) ≡ true = grind (arith, nat_tests) in
+      renewed_at i (omega (arith, lt, spans.below)) ∙ ap (λ (t : Bool). cond {A = Option (List ℕ)} t (Some (made i)) (old_at i)) (tests i ∙ inside)
+
+  pub chunk_stays : (i : ℕ) → i < chunk_count h.chunk_size K.size → (i < K.from / h.chunk_size) ⊎ (chunk_count h.chunk_size K.end ≤ i) → get_or (after F K).chunks i None ≡ old_at i
+  chunk_stays i lt off =
+      let out : nat_le (K.from / h.chunk_size) i && nat_lt i (chunk_count h.chunk_size K.end) ≡ false = elim off [ inl low ↦ grind (arith, nat_tests) | inr high ↦ grind (arith, nat_tests) ] in
+      renewed_at i lt ∙ ap (λ (t : Bool). cond {A = Option (List ℕ)} t (Some (made i)) (old_at i)) (tests i ∙ out)
+
+  front_is : take 96 b ≡ sealed_header C key h
+  front_is =
+      sym (take-append-drop 64 (take 96 b))
+      ∙ ap (λ (l : List ℕ). l ++ drop 64 (take 96 b)) (take-take 64 96 b (omega arith) ∙ is_file.says.head)
+      ∙ ap (λ (l : List ℕ). head_of h ++ l) (drop-take 64 32 b ∙ is_file.tagged ∙ ap (header_tag C key) is_file.says.head)
+
+  pub front_same : K.size ≡ h.file_size → take 96 b ≡ sealed_header C key (header_of C (after F K))
+  front_same eq =
+      front_is
+      ∙ ap (λ (n : ℕ). sealed_header C key (with_size h n)) (sym eq)
+      ∙ ap (sealed_header C key) new_header
+
+-- the storage that a change leaves is the image of the new file
+pub carried_is_image : (C : Cipher) (lawful : IsLawful C) (E : List ℕ → Hashing) (b : List ℕ) (old new : Handle) (K : Change)
+    (is_file : IsFile C old.key b old.header) (ranged : Ranged old.header.chunk_size old.header.file_size K) → old.outside.bytes ≡ Some b
+    → (c : Carried C E (C.chunk_key old.key old.header.id) (plan_of (shape_of C old.header) old.header.file_size K) K.bytes old new)
+    → new.outside.bytes ≡ Some (image C old.key b (after (file_of C old.key old.header b) K) (is_touched (file_of C old.key old.header b) K) c.nonces)
+carried_is_image C lawful E b old new K is_file ranged told c =
+    c.bytes_are b told
+    ∙ ap (λ (l : List ℕ). Some (finished (sealed_header C key (with_size h K.size)) h.file_size K.size (layout_len s K.size) l)) same
+    ∙ ap (λ (x : Header). Some (finished (sealed_header C key x) h.file_size K.size (layout_len s K.size) (placed (stride s) anew (K.from / h.chunk_size) n b))) (new_header C lawful key b h K is_file ranged)
+    ∙ ap (λ (l : List ℕ). Some l)
+    (finished_is C lawful key b (after F K) h.file_size (K.from / h.chunk_size) (chunk_count h.chunk_size K.end) c.nonces (made C lawful key b h K is_file ranged) (is_touched F K) refl
+    is_file.says.fields.least (planned_spans s is_file.says.fields.least h.file_size K ranged) (tests C lawful key b h K is_file ranged)
+    is_file.length_fits c.drawn (λ i. length-new h.chunk_size K i (unwrap_or (old_at C lawful key b h K is_file ranged i) [])) is_file.says.fields.id
+    (length-rebuilt (renewed F K) 0 (chunk_count h.chunk_size K.size) F.chunks) (chunk_is C lawful key b h K is_file ranged) (front_same C lawful key b h K is_file ranged))
+  where
+    key : List ℕ
+    key = old.key
+
+    h : Header
+    h = old.header
+
+    s : Shape
+    s = shape_of C old.header
+
+    F : File
+    F = file_of C old.key old.header b
+
+    n : ℕ
+    n = chunk_count old.header.chunk_size K.end - K.from / old.header.chunk_size
+
+    anew : ℕ → List ℕ
+    anew i = sealed C (tag_len (shape_of C old.header)) (C.chunk_key old.key old.header.id) old.header.id i (nonce_at C.nonce_len (K.from / old.header.chunk_size) c.nonces i) (made C lawful old.key b old.header K is_file ranged i)
+
+    put : ℕ → List ℕ
+    put i = record_for C (C.chunk_key old.key old.header.id) old.header (plan_of (shape_of C old.header) old.header.file_size K) K.bytes i (nonce_at C.nonce_len (K.from / old.header.chunk_size) c.nonces i) (c.kept i)
+
+    same : placed (stride s) put (K.from / old.header.chunk_size) n b ≡ placed (stride s) anew (K.from / old.header.chunk_size) n b
+    same = placed_same (stride s) put anew (K.from / old.header.chunk_size) n b
+        (λ i le lt. ap (λ (m : List ℕ). sealed C (tag_len (shape_of C old.header)) (C.chunk_key old.key old.header.id) old.header.id i (nonce_at C.nonce_len (K.from / old.header.chunk_size) c.nonces i) m)
+        (all_made C lawful old.key b old.header K is_file ranged c.kept (c.right b told) i le (omega (arith, le, lt))))
