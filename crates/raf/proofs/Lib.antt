@@ -29,3 +29,4 @@ pub mod Finished
 pub mod Pictures
 pub mod Reopens
 pub mod Totals
+pub mod Arms

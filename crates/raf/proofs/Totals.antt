@@ -1,6 +1,6 @@
 -- Sums over the touched chunks, and over those that are needed.
 use Rattle.std.proofs.Common.{◌≡◌, ◌≢◌, inl, inr, ℕ, zero, suc, ◌+◌, ◌-◌, ◌*◌, ◌/◌, ◌<◌, ◌≤◌, min, max, Bool, true, false, cond, not, ◌&&◌, ◌||◌, List, length, refl, sym, ◌∙◌, ap, arith}
-use Rattle.std.specs.Prelude.{nat_lt, nat_le, nat_eq}
+use Rattle.std.specs.Prelude.{nat_lt, nat_le, nat_eq, if◌then◌else◌}
 use Rattle.std.proofs.lemmas.Bool.{cases_lt, cases_eq, cases_Bool, lt-ltb, le-ltb}
 use Rattle.std.proofs.lemmas.Bool.Decides.{nat_tests}
 use Rattle.std.proofs.lemmas.Nat.{mul-le}
@@ -77,13 +77,15 @@ module _ (s : Shape) (before : ℕ) (least : 16 ≤ s.chunk_size) (K : Change) (
       omega (arith, t, ap (λ (k : ℕ). k * v) e)
 
   -- the new records
-  pub touched_records : K.from / s.chunk_size < chunk_count s.chunk_size K.end
+  touched_some : K.from / s.chunk_size < chunk_count s.chunk_size K.end
       → sum_where (is_touched F K) (λ i. record_len s K.size i) 0 (chunk_count s.chunk_size K.size) ≡ new_records s (plan_of s before K)
-  touched_records some =
+  touched_some some =
       let end = chunk_count s.chunk_size K.end in
       let t = sum_total (is_touched F K) (λ i. record_len s K.size i) P (K.from / s.chunk_size) (chunk_count s.chunk_size K.end) spans.order (touched_ranged s least before K r F is) step (chunk_count s.chunk_size K.size) spans.below in
       let e : chunk_count s.chunk_size K.end - 1 ≡ K.from / s.chunk_size + (chunk_count s.chunk_size K.end - 1 - K.from / s.chunk_size) = omega (arith, some) in
-      omega (arith, t, inside (K.from / s.chunk_size) some, outside (chunk_count s.chunk_size K.end) (omega arith), ap (λ (k : ℕ). k * (stride s)) e)
+      let whole : new_records s (plan_of s before K) ≡ (chunk_count s.chunk_size K.end - 1 - K.from / s.chunk_size) * (stride s) + record_len s K.size (chunk_count s.chunk_size K.end - 1) =
+      ap (λ (t : Bool). cond {A = ℕ} t ((chunk_count s.chunk_size K.end - 1 - K.from / s.chunk_size) * (stride s) + record_len s K.size (chunk_count s.chunk_size K.end - 1)) 0) (lt-ltb (K.from / s.chunk_size) (chunk_count s.chunk_size K.end) some) in
+      omega (arith, t, inside (K.from / s.chunk_size) some, outside (chunk_count s.chunk_size K.end) (omega arith), ap (λ (k : ℕ). k * (stride s)) e, whole)
     where
       P : ℕ → ℕ
       P i = cond {A = ℕ} (nat_lt i (chunk_count s.chunk_size K.end)) (i * (stride s))
@@ -127,9 +129,9 @@ module _ (s : Shape) (before : ℕ) (least : 16 ≤ s.chunk_size) (K : Change) (
   ]
 
   -- the old records that are needed
-  pub needed_total : F.size ≡ before → K.from / s.chunk_size < chunk_count s.chunk_size K.end
+  needed_some : F.size ≡ before → K.from / s.chunk_size < chunk_count s.chunk_size K.end
       → sum_where (is_needed F K) (λ i. record_len s before i) 0 (chunk_count s.chunk_size before) ≡ needed_records s (plan_of s before K) (length K.bytes)
-  needed_total same some =
+  needed_some same some =
       let t = sum_ranged (is_touched F K) needs_at P (K.from / s.chunk_size) (chunk_count s.chunk_size K.end) spans.order (touched_ranged s least before K r F is) step (chunk_count s.chunk_size before) 0 in
       let a : max (K.from / s.chunk_size) (min 0 (chunk_count s.chunk_size K.end)) ≡ K.from / s.chunk_size = omega arith in
       let whole : needed_records s (plan_of s before K) (length K.bytes) ≡ A + needs_at (chunk_count s.chunk_size K.end - 1) =
@@ -212,3 +214,22 @@ module _ (s : Shape) (before : ℕ) (least : 16 ≤ s.chunk_size) (K : Change) (
                   ]
             ]
       ]
+
+  -- where no chunk is touched, both are none
+  pub touched_records : sum_where (is_touched F K) (λ i. record_len s K.size i) 0 (chunk_count s.chunk_size K.size) ≡ new_records s (plan_of s before K)
+  touched_records = elim (cases_lt (K.from / s.chunk_size) (chunk_count s.chunk_size K.end)) [
+    | inl some ↦ touched_some some
+    | inr none ↦
+        let t = sum_total (is_touched F K) (λ i. record_len s K.size i) (λ _. 0) (K.from / s.chunk_size) (chunk_count s.chunk_size K.end) spans.order (touched_ranged s least before K r F is) (λ i lo hi. absurd (omega (arith, lo, hi, none))) (chunk_count s.chunk_size K.size) spans.below in
+        omega (arith, t) ∙ sym (ap (λ (t : Bool). cond {A = ℕ} t ((chunk_count s.chunk_size K.end - 1 - K.from / s.chunk_size) * (stride s) + record_len s K.size (chunk_count s.chunk_size K.end - 1)) 0) (le-ltb (K.from / s.chunk_size) (chunk_count s.chunk_size K.end) none))
+  ]
+
+  pub needed_total : F.size ≡ before → sum_where (is_needed F K) (λ i. record_len s before i) 0 (chunk_count s.chunk_size before) ≡ needed_records s (plan_of s before K) (length K.bytes)
+  needed_total same = elim (cases_lt (K.from / s.chunk_size) (chunk_count s.chunk_size K.end)) [
+    | inl some ↦ needed_some same some
+    | inr none ↦
+        let t = sum_ranged (is_touched F K) needs_at (λ _. 0) (K.from / s.chunk_size) (chunk_count s.chunk_size K.end) spans.order (touched_ranged s least before K r F is) (λ i lo hi. absurd (omega (arith, lo, hi, none))) (chunk_count s.chunk_size before) 0 in
+        sum_pointwise (is_needed F K) (is_touched F K) (λ i. record_len s before i) needs_at (needed_each same) 0 (chunk_count s.chunk_size before)
+        ∙ omega (arith, t)
+        ∙ sym (ap (λ (t : Bool). cond {A = ℕ} t ((if nat_lt (K.from / s.chunk_size + 1) (chunk_count s.chunk_size K.end) then needs_at (K.from / s.chunk_size) else 0) + needs_at (chunk_count s.chunk_size K.end - 1)) 0) (le-ltb (K.from / s.chunk_size) (chunk_count s.chunk_size K.end) none))
+  ]
