@@ -13,5 +13,6 @@ pub mod Opening
 pub mod Read
 pub mod Plan
 pub mod Put
+pub mod Carry
 pub mod Session
 pub mod Ran

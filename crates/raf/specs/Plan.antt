@@ -25,7 +25,14 @@ pub record Spans (chunk_size before size first end : ℕ) : Type 0 where
   pub in_new : first * chunk_size ≤ size
   pub whole : size ≢ before → end ≡ chunk_count chunk_size size
 
--- the numbers of a plan for this much data fit
+-- how many bytes of an old chunk are kept: none where it has none below both sizes, or the data covers those
+abbrev pub kept_len : ℕ → Plan → ℕ → ℕ → ℕ
+kept_len chunk_size p len index =
+    let start = index * chunk_size in
+    let stop = min (start + chunk_size) (min p.before p.size) in
+    if nat_lt start stop && not (nat_le p.offset start && nat_le stop (p.offset + len)) then stop - start else 0
+
+-- the numbers of a plan for this much data fit, and of the chunks between the first and the last that it touches nothing is kept
 pub record Planned (s : Shape) (p : Plan) (len : ℕ) : Type 0 where
   pub least : 16 ≤ s.chunk_size
   pub most : s.chunk_size ≤ 1048576
@@ -37,6 +44,7 @@ pub record Planned (s : Shape) (p : Plan) (len : ℕ) : Type 0 where
   pub until : p.until ≡ (if nat_lt p.size p.before then chunk_count s.chunk_size p.before else p.end)
   pub some : p.first < p.until
   pub data_fits : p.offset + len < 2 ^ 64
+  pub covered : (i : ℕ) → p.first < i → i + 1 < p.end → kept_len s.chunk_size p len i ≡ 0
 
 -- the range of a change lies in the new file and begins in the old one, and where it is empty it begins with a chunk
 pub record Ranged (chunk_size before : ℕ) (K : Change) : Type 0 where
@@ -49,13 +57,6 @@ pub record Ranged (chunk_size before : ℕ) (K : Change) : Type 0 where
   pub some : K.from ≡ K.end → K.size ≢ before
   pub covered : (i : ℕ) → K.from / chunk_size < i → i * chunk_size + chunk_size ≤ K.end → i * chunk_size < before → i * chunk_size < K.size
       → (K.offset ≤ i * chunk_size) × (i * chunk_size + chunk_size ≤ K.offset + length K.bytes)
-
--- how many bytes of an old chunk are kept: none where it has none below both sizes, or the data covers those
-abbrev pub kept_len : ℕ → Plan → ℕ → ℕ → ℕ
-kept_len chunk_size p len index =
-    let start = index * chunk_size in
-    let stop = min (start + chunk_size) (min p.before p.size) in
-    if nat_lt start stop && not (nat_le p.offset start && nat_le stop (p.offset + len)) then stop - start else 0
 
 -- the change of a plan with this data, as far as a chunk sees it
 abbrev pub change_by : Plan → List ℕ → Change

@@ -2,6 +2,7 @@
 #![tactic(auto)]
 
 mod builder;
+mod carrying;
 mod changing;
 mod command;
 mod data;

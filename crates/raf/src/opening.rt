@@ -11,7 +11,10 @@ ghost use Rattle.raf.specs.Opening.{LaidOut, WhyNotLaidOut, WhyNotOpened, Settin
 ghost use Rattle.raf_io.specs.Kinds.{kind_of};
 
 use crate::outside::Parts;
-use raf_format::{Algorithm, Header, algorithm_number, chunk_key, header_tag_fits, layout_len, nonce_length, parse_header};
+use raf_format::{
+    Algorithm, Header, algorithm_number, chunk_key, header_tag_fits, layout_len, nonce_length,
+    parse_header,
+};
 use raf_io::{Error, ErrorKind, RafIo, RafRng, Reason};
 use raf_tree::{MerkleHasher, Tree};
 use std::alloc::Global;

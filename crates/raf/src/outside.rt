@@ -1,11 +1,14 @@
 //! The storage, the random source and the hasher of a file, seen together.
-ghost use Rattle.std.specs.Prelude.{◌≡◌, ◌+◌, ◌^◌, ◌<◌, ◌≤◌, max, ⊤, List, ℕ, length, Some, IfOk, IfErr, OnOk, OnErr};
+ghost use Rattle.std.specs.Prelude.{◌≡◌, ◌+◌, ◌-◌, ◌^◌, ◌<◌, ◌≤◌, max, ⊤, List, ℕ, length, Some, None, true, IfOk, IfErr, OnOk, OnErr};
 ghost use Rattle.std.specs.Option.{option_map};
-ghost use Rattle.raf_io.specs.Storage.{spliced, Told, ReadsFrom, Torn, IsLengthOf, Strays, SyncedTo};
-ghost use Rattle.raf_io.specs.Source.{Takes, TakesAtMost};
-ghost use Rattle.raf_tree.specs.Kept.{Kept, kept};
+ghost use Rattle.counts.specs.Counts.{Rose};
+ghost use Rattle.raf_io.specs.Storage.{spliced, resized, Told, ReadsFrom, Torn, Cut, IsLengthOf, Strays, SyncedTo};
+ghost use Rattle.raf_io.specs.Source.{Takes, TakesAtMost, IsShort};
+ghost use Rattle.raf_tree.specs.Kept.{Kept, kept, tree_height};
+ghost use Rattle.raf_tree.specs.Steps.{Updated, UpdateCalls};
 ghost use Rattle.raf.specs.Handle.{Paired};
 ghost use Rattle.raf.specs.Outside.{Quiet, Caused, Moved, counted, Kept as Kept_};
+ghost use Rattle.raf.specs.Carry.{SameTree, OfTrees, Leafed, HasTree};
 ghost use Rattle.raf_io.specs.Kinds.{kind_of};
 
 use raf_io::{Error, ErrorKind, RafIo, RafRng};
@@ -88,9 +91,27 @@ impl<I: RafIo, R: RafRng, H: MerkleHasher> Parts<I, R, H> {
         ensures failed { IfErr result (λ e. (kind_of e ≡ ErrorKind.Io) × Caused ErrorKind.Io self.old self.new) }
         ensures quiet { OnOk result (Quiet self.old self.new) }
         ensures moved { Moved self.old self.new (offset + length bytes.now) (length bytes.now) 0 1 0 }
+        ensures began { Rose self.old.changes self.new.changes }
         ensures strays { self.new.strays ≡ self.old.strays }
     {
         match self.io.write_at(bytes, offset) {
+            Ok(()) => Ok(()),
+            Err(fault) => Err(Error::Io(fault)),
+        }
+    }
+
+    /// Cuts the storage, or adds zeros to it.
+    pub fn resize(&mut self, size: u64) -> Result<(), Error>
+        ensures resized { OnOk result (self.new.bytes ≡ option_map (resized size) self.old.bytes) }
+        ensures cut { OnErr result (Told (Cut size) self.old.bytes self.new.bytes) }
+        ensures left { self.new.left ≡ self.old.left }
+        ensures failed { IfErr result (λ e. (kind_of e ≡ ErrorKind.Io) × Caused ErrorKind.Io self.old self.new) }
+        ensures quiet { OnOk result (Quiet self.old self.new) }
+        ensures moved { Moved self.old self.new size 0 0 1 0 }
+        ensures began { Rose self.old.changes self.new.changes }
+        ensures strays { self.new.strays ≡ self.old.strays }
+    {
+        match self.io.set_size(size) {
             Ok(()) => Ok(()),
             Err(fault) => Err(Error::Io(fault)),
         }
@@ -101,6 +122,8 @@ impl<I: RafIo, R: RafRng, H: MerkleHasher> Parts<I, R, H> {
         ensures taken { OnOk result (Takes self.old.left buf.new self.new.left) }
         ensures kept_left { OnErr result (TakesAtMost self.old.left (length buf.old) self.new.left) }
         ensures bytes { self.new.bytes ≡ self.old.bytes }
+        ensures durable { self.new.durable ≡ self.old.durable }
+        ensures short { OnErr result (self.old.exact ≡ true → IsShort self.old.left (length buf.old)) }
         ensures failed { IfErr result (λ e. (kind_of e ≡ ErrorKind.Rng) × Caused ErrorKind.Rng self.old self.new) }
         ensures quiet { OnOk result (Quiet self.old self.new) }
         ensures moved { Moved self.old self.new 0 0 (length buf.old) 0 0 }
@@ -136,16 +159,54 @@ impl<I: RafIo, R: RafRng, H: MerkleHasher> Parts<I, R, H> {
         requires index { (t : Kept) → tree.old ≡ Some t → index < t.max_chunks }
         requires chunk { length chunk.now ≤ 2 ^ 60 }
         ensures put { (t : Kept) (s : List ℕ) → tree.new ≡ Some t → self.old.setting ≡ Some s → OnOk result (kept t 0 index ≡ (H.hashing s).leaf chunk.now index) }
+        ensures leaf { OnOk result (OfTrees H.hashing self.old.setting tree.old tree.new (Leafed index chunk.now)) }
+        ensures same { SameTree tree.old tree.new }
+        ensures there { OnErr result (HasTree tree.new) }
         ensures paired { Paired H.hashing self.new.setting tree.new }
         ensures kept { Kept_ self.old self.new }
         ensures failed { IfErr result (λ e. (kind_of e ≡ ErrorKind.Hash) × Caused ErrorKind.Hash self.old self.new) }
         ensures quiet { OnOk result (Quiet self.old self.new) }
         ensures moved { Moved self.old self.new 0 0 0 0 1 }
+        ensures began { OnErr result (Rose self.old.calls self.new.calls) }
+        ensures none { tree.old ≡ None → self.new.calls ≡ self.old.calls }
         ensures strays { self.new.strays ≡ self.old.strays }
     {
         if let Some(hasher) = &mut self.hasher {
             if let Some(tree) = tree {
                 return match tree.put_leaf::<H>(hasher, index, chunk) {
+                    Ok(()) => Ok(()),
+                    Err(_) => Err(Error::Hash),
+                };
+            }
+        }
+        Ok(())
+    }
+
+    /// Makes the nodes of the tree above a range of leaves anew, where there is one.
+    pub fn update_tree(
+        &mut self,
+        tree: &mut Option<Tree>,
+        count: u64,
+        first: u64,
+        end: u64,
+    ) -> Result<(), Error>
+        requires paired { Paired H.hashing self.old.setting tree.old }
+        requires range { first ≤ end }
+        requires room { (t : Kept) → tree.old ≡ Some t → (count ≤ t.max_chunks) × (end ≤ t.max_chunks) }
+        ensures updated { OnOk result (OfTrees H.hashing self.old.setting tree.old tree.new (λ M. Updated M count first end)) }
+        ensures same { SameTree tree.old tree.new }
+        ensures there { OnErr result (HasTree tree.new) }
+        ensures kept { Kept_ self.old self.new }
+        ensures failed { IfErr result (λ e. (kind_of e ≡ ErrorKind.Hash) × Caused ErrorKind.Hash self.old self.new) }
+        ensures quiet { OnOk result (Quiet self.old self.new) }
+        ensures moved { Moved self.old self.new 0 0 0 0 (self.new.calls - self.old.calls) }
+        ensures calls { (t : Kept) → tree.old ≡ Some t → UpdateCalls count first end (tree_height t) self.old.calls self.new.calls result }
+        ensures none { tree.old ≡ None → (self.new.calls ≡ self.old.calls) }
+        ensures strays { self.new.strays ≡ self.old.strays }
+    {
+        if let Some(hasher) = &mut self.hasher {
+            if let Some(tree) = tree {
+                return match tree.update::<H>(hasher, count, first, end) {
                     Ok(()) => Ok(()),
                     Err(_) => Err(Error::Hash),
                 };
