@@ -30,3 +30,6 @@ pub mod Pictures
 pub mod Reopens
 pub mod Totals
 pub mod Arms
+pub mod Plans
+pub mod Amounts
+pub mod Grows
