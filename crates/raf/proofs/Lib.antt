@@ -33,3 +33,4 @@ pub mod Arms
 pub mod Plans
 pub mod Amounts
 pub mod Grows
+pub mod GrowsOn
