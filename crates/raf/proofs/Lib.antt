@@ -34,3 +34,4 @@ pub mod Plans
 pub mod Amounts
 pub mod Grows
 pub mod GrowsOn
+pub mod ChangeBounds
