@@ -35,3 +35,5 @@ pub mod Amounts
 pub mod Grows
 pub mod GrowsOn
 pub mod ChangeBounds
+pub mod ReadyChanges
+pub mod ChangesDone
