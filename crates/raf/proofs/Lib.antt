@@ -37,3 +37,4 @@ pub mod GrowsOn
 pub mod ChangeBounds
 pub mod ReadyChanges
 pub mod ChangesDone
+pub mod ChangesStopped
