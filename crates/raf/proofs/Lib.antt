@@ -38,3 +38,5 @@ pub mod ChangeBounds
 pub mod ReadyChanges
 pub mod ChangesDone
 pub mod ChangesStopped
+pub mod IdleChanges
+pub mod Altering

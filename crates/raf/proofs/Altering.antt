@@ -1,0 +1,82 @@
+-- A write and a truncation, each as a change.
+use Rattle.std.proofs.Common.{◌≡◌, ◌≢◌, inl, inr, ℕ, ◌+◌, ◌<◌, ◌≤◌, Bool, true, false, cond, List, [], ◌∷◌, length, Option, Some, None, Result, Ok, Err, refl, sym, ◌∙◌, ap, arith}
+use Rattle.std.specs.Prelude.{nat_eq}
+use Rattle.std.proofs.lemmas.Bool.Decides.{nat_tests}
+use Rattle.raf_tree.specs.Hashing.{Hashing}
+use Rattle.raf_tree.specs.Laws.{TreeLaws}
+use Rattle.raf_format.specs.Cipher.{Cipher, IsLawful}
+use Rattle.raf_format.specs.File.{File, shape_of, chunk_count}
+use Rattle.raf.specs.Concern.{can_have}
+use Rattle.raf.specs.Change.{Change, change_of, write_change, truncate_change}
+use Rattle.raf.specs.Handle.{Handle, HasRoom, limit_of, outline}
+use Rattle.raf.specs.Plan.{plan_of}
+use Rattle.raf.specs.Put.{Changing}
+use Rattle.raf.specs.Stepped.{Went, write_reply, done_reply}
+use Rattle.raf.specs.declared.command.Command.TheVariants.{Write, Truncate}
+use Rattle.raf.specs.declared.command.Reply.TheVariants as reply
+use Rattle.raf_io.specs.declared.errors.Error.{Error}
+use Rattle.raf_format.specs.declared.header.Header.{Header}
+use Rattle.raf.proofs.Arms.{Alters, with_chunks}
+use Rattle.raf.proofs.Ranges.{write_ranged, truncate_ranged}
+use Rattle.raf.proofs.ReadyChanges.{Ready}
+use Rattle.raf.proofs.ChangesDone.{went_done}
+use Rattle.raf.proofs.ChangesStopped.{went_stopped}
+
+pub write_alters : (C : Cipher) (h : Header) (offset : ℕ) (bytes : List ℕ) → 0 < length bytes → Alters C h (Write offset bytes) (write_change h.file_size offset bytes) (reply.Wrote (length bytes))
+write_alters C h offset [] some = absurd (omega (arith, some))
+write_alters C h offset (x ∷ xs) some = record { change = λ chunks. refl; answers = λ F. refl; kind = refl }
+
+pub truncate_alters : (C : Cipher) (h : Header) (size : ℕ) → size ≢ h.file_size → Alters C h (Truncate size) (truncate_change h.chunk_size h.file_size size) reply.Done
+truncate_alters C h size other =
+    let t : nat_eq size h.file_size ≡ false = grind (arith, nat_tests) in
+    record { change = λ chunks. ap (λ (t : Bool). cond {A = Option Change} t None (Some (truncate_change h.chunk_size h.file_size size))) t; answers = λ F. refl; kind = refl }
+
+module _ (C : Cipher) (lawful : IsLawful C) (E : List ℕ → Hashing) (laws : (H : Hashing) → TreeLaws H) (old new : Handle) (least : 16 ≤ old.header.chunk_size)
+    (room : HasRoom (chunk_count old.header.chunk_size old.header.file_size) old.tree) where
+  ready_write : (offset : ℕ) (bytes : List ℕ) → 0 < length bytes → can_have (limit_of old) (outline C old.header) (write_change old.header.file_size offset bytes).size ≡ true
+      → Ready C old (Write offset bytes) (write_change old.header.file_size offset bytes) (reply.Wrote (length bytes))
+  ready_write offset bytes some fits = record {
+    alters = write_alters C old.header offset bytes some;
+    calm = refl;
+    answered = refl;
+    faultless = refl;
+    least = least;
+    ranged = write_ranged (shape_of C old.header) least old.header.file_size offset bytes some;
+    fits = fits;
+    room = room;
+  }
+
+  ready_truncate : (size : ℕ) → size ≢ old.header.file_size → can_have (limit_of old) (outline C old.header) size ≡ true
+      → Ready C old (Truncate size) (truncate_change old.header.chunk_size old.header.file_size size) reply.Done
+  ready_truncate size other fits = record {
+    alters = truncate_alters C old.header size other;
+    calm = refl;
+    answered = refl;
+    faultless = refl;
+    least = least;
+    ranged = truncate_ranged (shape_of C old.header) least old.header.file_size size other;
+    fits = fits;
+    room = room;
+  }
+
+  pub wrote : (offset : ℕ) (bytes : List ℕ) → 0 < length bytes → can_have (limit_of old) (outline C old.header) (write_change old.header.file_size offset bytes).size ≡ true
+      → Changing C E (C.chunk_key old.key old.header.id) (plan_of (shape_of C old.header) old.header.file_size (write_change old.header.file_size offset bytes)) bytes old new (Ok tt)
+      → Went C E old new (Write offset bytes) (reply.Wrote (length bytes))
+  wrote offset bytes some fits ch =
+      went_done C lawful E laws old new (Write offset bytes) (write_change old.header.file_size offset bytes) (reply.Wrote (length bytes)) (ready_write offset bytes some fits) ch.carried ch.moved ch.hashed ch.key ch.header ch.limit ch.unmarked ch.quiet
+      (λ F held. ch.strays held.bytes held.tells (omega (arith, held.is_file.length_fits)))
+
+  pub wrote_not : (offset : ℕ) (bytes : List ℕ) → 0 < length bytes → can_have (limit_of old) (outline C old.header) (write_change old.header.file_size offset bytes).size ≡ true → (e : Error)
+      → Changing C E (C.chunk_key old.key old.header.id) (plan_of (shape_of C old.header) old.header.file_size (write_change old.header.file_size offset bytes)) bytes old new (Err e)
+      → Went C E old new (Write offset bytes) (write_reply (Err e))
+  wrote_not offset bytes some fits e ch =
+      went_stopped C lawful E old new (Write offset bytes) (write_change old.header.file_size offset bytes) (reply.Wrote (length bytes)) (ready_write offset bytes some fits) e ch
+
+  pub truncated : (size : ℕ) → size ≢ old.header.file_size → can_have (limit_of old) (outline C old.header) size ≡ true → (r : Result (Unit {0}) Error)
+      → Changing C E (C.chunk_key old.key old.header.id) (plan_of (shape_of C old.header) old.header.file_size (truncate_change old.header.chunk_size old.header.file_size size)) [] old new r
+      → Went C E old new (Truncate size) (done_reply r)
+  truncated size other fits (Ok u) ch =
+      went_done C lawful E laws old new (Truncate size) (truncate_change old.header.chunk_size old.header.file_size size) reply.Done (ready_truncate size other fits) ch.carried ch.moved ch.hashed ch.key ch.header ch.limit ch.unmarked ch.quiet
+      (λ F held. ch.strays held.bytes held.tells (omega (arith, held.is_file.length_fits)))
+  truncated size other fits (Err e) ch =
+      went_stopped C lawful E old new (Truncate size) (truncate_change old.header.chunk_size old.header.file_size size) reply.Done (ready_truncate size other fits) e ch
