@@ -1,7 +1,7 @@
 -- A write and a truncation, each as a change.
-use Rattle.std.proofs.Common.{◌≡◌, ◌≢◌, inl, inr, ℕ, zero, suc, ◌+◌, ◌^◌, ◌<◌, ◌≤◌, Bool, true, false, cond, List, [], ◌∷◌, length, Option, Some, None, Result, Ok, Err, refl, sym, ◌∙◌, ap, subst, arith}
+use Rattle.std.proofs.Common.{◌≡◌, ◌≢◌, inl, inr, ℕ, ◌+◌, ◌^◌, ◌<◌, ◌≤◌, Bool, true, false, cond, List, [], ◌∷◌, length, Option, Some, None, Result, Ok, Err, refl, sym, ◌∙◌, ap, subst, arith}
 use Rattle.std.specs.Prelude.{nat_eq}
-use Rattle.std.proofs.lemmas.Bool.{false≢true}
+use Rattle.std.proofs.lemmas.Bool.{cases_lt, false≢true}
 use Rattle.std.proofs.lemmas.Bool.Decides.{nat_tests}
 use Rattle.raf_tree.specs.Hashing.{Hashing}
 use Rattle.raf_tree.specs.Laws.{TreeLaws}
@@ -118,9 +118,13 @@ truncated_nothing C E old size unmarked same =
 
 -- whether there are bytes, by the test
 pub none_by : (n : ℕ) → true ≡ nat_eq n 0 → n ≡ 0
-none_by zero t = refl
-none_by (suc n) t = absurd (false≢true (sym t))
+none_by n t = elim (cases_lt 0 n) [
+  | inl some ↦ let f : nat_eq n 0 ≡ false = grind (arith, nat_tests) in absurd (false≢true (sym f ∙ sym t))
+  | inr none ↦ omega (arith, none)
+]
 
 pub some_by : (n : ℕ) → false ≡ nat_eq n 0 → 0 < n
-some_by zero t = absurd (false≢true t)
-some_by (suc n) t = omega arith
+some_by n t = elim (cases_lt 0 n) [
+  | inl some ↦ some
+  | inr none ↦ let f : nat_eq n 0 ≡ true = grind (arith, nat_tests) in absurd (false≢true (t ∙ f))
+]
