@@ -27,3 +27,5 @@ pub mod Pieces
 pub mod SameTrees
 pub mod Tears
 pub mod Stored
+pub mod PutRecords
+pub mod Prepared

@@ -76,15 +76,11 @@ Unprepared C K h p len AuthenticationFailed old new =
     Quiet old new × (new.left ≡ old.left) × ((b : List ℕ) → old.bytes ≡ Some b → Misses C K h p len b)
 Unprepared C K h p len _ old new = ⊥
 
--- a chunk that is needed was opened: it stands in a buffer behind the nonce
-abbrev pub Stands : Cipher → List ℕ → Header → Plan → ℕ → ℕ → List ℕ → List ℕ → Type 0
-Stands C K h p len index b buf =
-    0 < kept_len h.chunk_size p len index → chunk_at C K h b index ≡ Some (take (chunk_len h.chunk_size p.before index) (drop C.nonce_len buf))
-
--- a chunk was opened if it is needed
-pub record Readies (C : Cipher) (K : List ℕ) (h : Header) (p : Plan) (len index asked : ℕ) (old new : Outside) (after : List ℕ) (result : Result (Unit {0}) Error) : Type 0 where
-  pub stands : (b : List ℕ) → old.bytes ≡ Some b → OnOk result (Stands C K h p len index b after)
-  pub missing : (b : List ℕ) → old.bytes ≡ Some b → IfErr result (λ e. kind_of e ≡ AuthenticationFailed → (0 < kept_len h.chunk_size p len index) × (chunk_at C K h b index ≡ None))
+-- a chunk was opened if bytes of it are wanted: then it stands in a buffer behind the nonce
+pub record Readies (C : Cipher) (K : List ℕ) (h : Header) (p : Plan) (index wanted asked : ℕ) (old new : Outside) (after : List ℕ) (result : Result (Unit {0}) Error) : Type 0 where
+  pub stands : (b : List ℕ) → old.bytes ≡ Some b
+      → OnOk result (0 < wanted → chunk_at C K h b index ≡ Some (take (chunk_len h.chunk_size p.before index) (drop C.nonce_len after)))
+  pub missing : (b : List ℕ) → old.bytes ≡ Some b → IfErr result (λ e. kind_of e ≡ AuthenticationFailed → (0 < wanted) × (chunk_at C K h b index ≡ None))
   pub kinds : IfErr result (λ e. Unopened (kind_of e) old new)
   pub needed : OnErr result (1 ≤ asked)
   pub quiet : OnOk result (Quiet old new)
