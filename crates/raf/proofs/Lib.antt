@@ -29,3 +29,7 @@ pub mod Tears
 pub mod Stored
 pub mod PutRecords
 pub mod Prepared
+pub mod Spared
+pub mod Finished
+pub mod Committed
+pub mod Changed

@@ -160,6 +160,7 @@ pub record Stores (C : Cipher) (E : List ℕ → Hashing) (K : List ℕ) (h : He
   pub same : SameTree tree tree'
   pub left : OnErr result (TakesAtMost old.left ((p.end - 1 - p.first) * C.nonce_len) new.left)
   pub failed : IfErr result (λ e. Hindered ((p.end - 1 - p.first) * C.nonce_len) (kind_of e) old new tree')
+  pub some : OnErr result (p.first < p.end)
   pub began : OnErr result (MayHaveBegun old new)
   pub quiet : OnOk result (Quiet old new)
   pub moved : Moved old new (layout_len (shape_of C h) p.size) (new_records (shape_of C h) p) ((p.end - 1 - p.first) * C.nonce_len) (p.end - p.first) (p.end - p.first)
@@ -187,6 +188,7 @@ pub record Commits (C : Cipher) (E : List ℕ → Hashing) (key K : List ℕ) (h
   pub same : SameTree tree tree'
   pub left : OnErr result (TakesAtMost old.left ((p.end - 1 - p.first) * C.nonce_len) new.left)
   pub failed : IfErr result (λ e. Hindered ((p.end - 1 - p.first) * C.nonce_len) (kind_of e) old new tree')
+  pub asks : IfErr result (λ e. kind_of e ≡ Rng → p.first < p.end)
   pub began : OnErr result (MayHaveBegun old new)
   pub quiet : OnOk result (Quiet old new)
   pub moved : Moved old new (layout_len (shape_of C h) p.size) (new_records (shape_of C h) p + (if nat_eq p.size p.before then 0 else 96)) ((p.end - 1 - p.first) * C.nonce_len) (changes_of p) (new.calls - old.calls)
