@@ -4,6 +4,7 @@ use Rattle.std.specs.Prelude.{if◌then◌else◌, nat_lt, nat_eq, ◌⊎◌}
 use Rattle.std.proofs.lemmas.List.{drop_all}
 use Rattle.std.proofs.lemmas.Nat.{mul-le}
 use Rattle.std.proofs.lemmas.Bool.{cases_lt, false≢true}
+use Rattle.std.proofs.lemmas.Bool.Decides.{nat_tests}
 use Rattle.counts.specs.Counts.{Rose}
 use Rattle.raf_io.specs.Source.{Takes, TakesAtMost, IsShort}
 use Rattle.raf_io.specs.Kinds.{kind_of}
@@ -90,14 +91,14 @@ module _ (C : Cipher) (E : List ℕ → Hashing) (K : List ℕ) (h : Header) (p 
       let calls : new.calls ≡ old.calls = omega (arith, pr.moved.calls_later, pr.moved.calls_most) in
       record {
         carried = tt;
-        missing = λ b told auth. (as AuthenticationFailed auth).2 b told;
+        missing = λ b told auth. (cause AuthenticationFailed auth).2 b told;
         failed = unready_first (kind_of e) old new pr.failed;
-        reads = λ io kept. (as Io io).1;
+        reads = λ io kept. (cause Io io).1;
         asks = λ rng. pr.some;
-        short = λ rng exact. short_then old.left old.left [] C.nonce_len ((p.end - p.first) * C.nonce_len) (takes_none old.left) (omega (arith, one)) ((as Rng rng).2 exact);
-        hashes = λ hash. absurd (as Hash hash);
-        there = λ b told which misses. elim which [ inl rng ↦ (as Rng rng).3 b told misses | inr hash ↦ absurd (as Hash hash) ];
-        untaken = λ auth. ((as AuthenticationFailed auth).1, unmarked);
+        short = λ rng exact. short_then old.left old.left [] C.nonce_len ((p.end - p.first) * C.nonce_len) (takes_none old.left) (omega (arith, one)) ((cause Rng rng).2 exact);
+        hashes = λ hash. absurd (cause Hash hash);
+        there = λ b told which misses. elim which [ inl rng ↦ (cause Rng rng).3 b told misses | inr hash ↦ absurd (cause Hash hash) ];
+        untaken = λ auth. ((cause AuthenticationFailed auth).1, unmarked);
         quiet = tt;
         left = takes_most old.left new.left C.nonce_len ((p.end - p.first) * C.nonce_len) (omega (arith, one)) pr.left;
         spared = λ b told l. spared_same s p (length bytes) planned b new.bytes (pr.bytes ∙ told);
@@ -113,8 +114,8 @@ module _ (C : Cipher) (E : List ℕ → Hashing) (K : List ℕ) (h : Header) (p 
         limit = refl;
       }
     where
-      as : (kind : ErrorKind) → kind_of e ≡ kind → Unprepared C K h p (length bytes) kind old new
-      as kind is = subst (λ (k : ErrorKind). Unprepared C K h p (length bytes) k old new) is pr.failed
+      cause : (kind : ErrorKind) → kind_of e ≡ kind → Unprepared C K h p (length bytes) kind old new
+      cause kind is = subst (λ (k : ErrorKind). Unprepared C K h p (length bytes) k old new) is pr.failed
 
   module _ (old mid new : Outside) (tree tree' : Option Kept) (was : Bool) (unmarked : was ≡ false) (front back : List ℕ) (x : Unit {0}) (pr : Prepares C K h p (length bytes) old mid front back (Ok x)) where
     abbrev kept : ℕ → List ℕ
@@ -211,16 +212,16 @@ module _ (C : Cipher) (E : List ℕ → Hashing) (K : List ℕ) (h : Header) (p 
         → Changing C E K p bytes (handle_of old key h tree was) (handle_of new key h tree' true) (Err e)
     changing_cut e cm = record {
       carried = tt;
-      missing = λ b told auth. absurd (as AuthenticationFailed auth);
+      missing = λ b told auth. absurd (cause AuthenticationFailed auth);
       failed = unready_later ((p.end - 1 - p.first) * C.nonce_len) (kind_of e) old mid new tree' pr.quiet cm.failed;
       reads = λ io kept. absurd (false≢true (sym kept));
       asks = cm.asks;
       short = λ rng exact.
           short_then old.left mid.left nonce ((p.end - 1 - p.first) * C.nonce_len) ((p.end - p.first) * C.nonce_len) (pr.taken (cm.asks rng)) (omega (arith, nonce_most, nonces_one (cm.asks rng)))
-          ((as Rng rng).1 (pr.moved.exact ∙ exact));
-      hashes = λ hash. (as Hash hash).1;
+          ((cause Rng rng).1 (pr.moved.exact ∙ exact));
+      hashes = λ hash. (cause Hash hash).1;
       there = λ b told which. none_misses C K h p (length bytes) planned size b kept (pr.right b told);
-      untaken = λ auth. absurd (as AuthenticationFailed auth);
+      untaken = λ auth. absurd (cause AuthenticationFailed auth);
       quiet = tt;
       left = taken_some;
       spared = λ b told l. cm.spared b (pr.bytes ∙ told) l;
@@ -234,8 +235,8 @@ module _ (C : Cipher) (E : List ℕ → Hashing) (K : List ℕ) (h : Header) (p 
       limit = same_limit tree tree' cm.same;
     }
       where
-        as : (kind : ErrorKind) → kind_of e ≡ kind → Hindered ((p.end - 1 - p.first) * C.nonce_len) kind mid new tree'
-        as kind is = subst (λ (k : ErrorKind). Hindered ((p.end - 1 - p.first) * C.nonce_len) k mid new tree') is cm.failed
+        cause : (kind : ErrorKind) → kind_of e ≡ kind → Hindered ((p.end - 1 - p.first) * C.nonce_len) kind mid new tree'
+        cause kind is = subst (λ (k : ErrorKind). Hindered ((p.end - 1 - p.first) * C.nonce_len) k mid new tree') is cm.failed
 
         begun : MayHaveBegun mid new → MayHaveBegun old new
         begun began = elim began [

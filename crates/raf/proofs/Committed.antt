@@ -162,14 +162,14 @@ module _ (C : Cipher) (E : List ℕ → Hashing) (key K : List ℕ) (h : Header)
         let calls_mid : fin.calls ≡ mid.calls = omega (arith, f.moved.calls_later, f.moved.calls_most) in
         record {
           stored = on_ok r _ _ (λ (up : OfTrees E fin.setting tree₁ tree' (λ H. Updated H p.count p.first p.until)). (
-              mid,
-              tree₁,
-              st.stored,
-              kept_.left ∙ f.left,
-              st.same,
-              subst (λ (o : Option (List ℕ)). OfTrees E o tree₁ tree' (λ H. Updated H p.count p.first p.until)) (f.moved.setting ∙ st.moved.setting) up,
-              λ b told. kept_.bytes ∙ f.finished b told,
-            )) updated;
+            mid,
+            tree₁,
+            st.stored,
+            kept_.left ∙ f.left,
+            st.same,
+            subst (λ (o : Option (List ℕ)). OfTrees E o tree₁ tree' (λ H. Updated H p.count p.first p.until)) (f.moved.setting ∙ st.moved.setting) up,
+            λ b told. kept_.bytes ∙ f.finished b told,
+          )) updated;
           spared = λ b told l. spared_trimmed s p (length bytes) planned old.bytes mid.bytes new.bytes b told l st.torn (λ b told. subst (λ (o : Option (List ℕ)). TrimmedTo p.before p.size p.layout b o) (sym kept_.bytes) (f.trimmed b told));
           same = same_tree_then tree tree₁ tree' st.same same;
           left = on_err_any r _ (subst (λ (o : Option (List ℕ)). TakesAtMost old.left ((p.end - 1 - p.first) * C.nonce_len) o) (sym (kept_.left ∙ f.left)) taken_most);

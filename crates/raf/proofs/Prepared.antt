@@ -136,7 +136,7 @@ module _ (C : Cipher) (K : List ℕ) (h : Header) (p : Plan) (len : ℕ) (planne
         take (chunk_len h.chunk_size p.before i) (drop C.nonce_len buf),
         is,
         ap (λ (l : List ℕ). take (kept_len h.chunk_size p len i) l) same
-        ∙ sym (take-take (kept_len h.chunk_size p len i) (chunk_len h.chunk_size p.before i) (drop C.nonce_len buf) (kept_fits_old h.chunk_size p len i)),
+            ∙ sym (take-take (kept_len h.chunk_size p len i) (chunk_len h.chunk_size p.before i) (drop C.nonce_len buf) (kept_fits_old h.chunk_size p len i)),
       )
 
       found : 0 < kept_len h.chunk_size p len i → (m : List ℕ) × (chunk_at C K h b i ≡ Some m) × (kept_in C h p len front' back' i ≡ take (kept_len h.chunk_size p len i) m)
@@ -191,7 +191,7 @@ module _ (C : Cipher) (K : List ℕ) (h : Header) (p : Plan) (len : ℕ) (planne
       go true some = some
       go false some = absurd (omega (arith, some))
 
-  nonce_asked : p.first < p.end → (if nat_lt p.first p.end then C.nonce_len else 0) ≡ C.nonce_len
+  pub nonce_asked : p.first < p.end → (if nat_lt p.first p.end then C.nonce_len else 0) ≡ C.nonce_len
   nonce_asked some =
       let t : nat_lt p.first p.end ≡ true = grind (arith, nat_tests) in
       ap (λ (t : Bool). cond {A = ℕ} t C.nonce_len 0) t
@@ -254,10 +254,12 @@ module _ (C : Cipher) (K : List ℕ) (h : Header) (p : Plan) (len : ℕ) (planne
             taken = λ lt. subst (λ (o : Option (List ℕ)). OnOk r (Takes o (take C.nonce_len (buffer_of p p.first front' back')) drawn.left)) k.left d.taken;
             untaken = λ none. absurd (omega (arith, some, none));
             failed = if_err_and r _ _ _ (λ e (why : (kind_of e ≡ Rng) × Caused Rng new drawn) (short : new.exact ≡ true → IsShort new.left C.nonce_len).
-                subst (λ (k : ErrorKind). Unprepared C K h p len k old drawn) (sym why.0)
-                (caused_later Rng old new drawn q why.1, some,
-                (λ exact. subst (λ (o : Option (List ℕ)). IsShort o C.nonce_len) k.left (short (m.moved.exact ∙ l.moved.exact ∙ exact))),
-                (λ b told. none_misses b (kept_in C h p len front' back') (right b told)))) d.failed d.short;
+                subst (λ (k : ErrorKind). Unprepared C K h p len k old drawn) (sym why.0) (
+                  caused_later Rng old new drawn q why.1,
+                  some,
+                  (λ exact. subst (λ (o : Option (List ℕ)). IsShort o C.nonce_len) k.left (short (m.moved.exact ∙ l.moved.exact ∙ exact))),
+                  (λ b told. none_misses b (kept_in C h p len front' back') (right b told)),
+                )) d.failed d.short;
             some = on_err_any r _ some;
             left = subst (λ (o : Option (List ℕ)). OnErr r (TakesAtMost o C.nonce_len drawn.left)) k.left d.left;
             bytes = d.bytes ∙ k.bytes;
