@@ -20,6 +20,9 @@ pub mod Sizes
 pub mod Opened
 pub mod Ends
 pub mod NotOpened
+pub mod Grown
+pub mod Headed
+pub mod Openings
 pub mod Placed
 pub mod Spans
 pub mod Overlaid
