@@ -1,4 +1,4 @@
-use Rattle.std.proofs.Common.{◌≡◌, ℕ, List, length, Result, Err}
+use Rattle.std.proofs.Common.{Result}
 use Rattle.std.specs.Prelude.{if◌then◌else◌, is_ok}
 use Rattle.raf_format.specs.Cipher.{cipher_of}
 use Rattle.raf.specs.Handle.{handle_of}

@@ -1,4 +1,4 @@
-use Rattle.std.proofs.Common.{◌≡◌, ℕ, ◌+◌, ◌-◌, ◌<◌, ◌≤◌, List, length, take, Result, Err}
+use Rattle.std.proofs.Common.{length, take, Result}
 use Rattle.raf_format.specs.Cipher.{cipher_of}
 use Rattle.raf.specs.Carry.{Commits, kept_in, buffer_of}
 use Rattle.raf_io.specs.declared.errors.Error.{Error}

@@ -1,4 +1,4 @@
-use Rattle.std.proofs.Common.{◌≡◌, ◌≢◌, ℕ, List, length, Result, Err, refl, ◌∙◌, ap, arith}
+use Rattle.std.proofs.Common.{Result}
 use Rattle.raf_format.specs.Cipher.{cipher_of}
 use Rattle.raf.specs.Carry.{Finishes}
 use Rattle.raf_io.specs.declared.errors.Error.{Error}

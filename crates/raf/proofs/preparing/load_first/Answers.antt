@@ -1,4 +1,4 @@
-use Rattle.std.proofs.Common.{◌≡◌, ℕ, ◌+◌, ◌<◌, ◌≤◌, arith}
+use Rattle.std.proofs.Common.{arith}
 use Rattle.raf_format.specs.Cipher.{cipher_of}
 use Rattle.raf.proofs.Prepared.{readies_none, readies_first}
 use Rattle.raf.proofs.preparing.load_first.Goals as goal

@@ -1,4 +1,4 @@
-use Rattle.std.proofs.Common.{◌≡◌, ℕ, List, Result, Err}
+use Rattle.std.proofs.Common.{Result}
 use Rattle.raf_format.specs.Cipher.{cipher_of}
 use Rattle.raf.specs.Carry.{Prepares}
 use Rattle.raf_io.specs.declared.errors.Error.{Error}

@@ -1,4 +1,4 @@
-use Rattle.std.proofs.Common.{◌≡◌, ℕ, List, length, take, drop, sym, subst}
+use Rattle.std.proofs.Common.{ℕ, List, length, take, drop, sym, subst}
 use Rattle.raf_format.specs.Cipher.{cipher_of}
 use Rattle.raf.specs.Plan.{kept_len}
 use Rattle.raf.specs.Carry.{Puts}

@@ -1,6 +1,6 @@
-use Rattle.std.proofs.Common.{◌≡◌, ℕ, ◌+◌, ◌-◌, ◌<◌, ◌≤◌, List, length, take, drop, Result, Err, refl, sym, ◌∙◌, ap, subst, arith}
+use Rattle.std.proofs.Common.{◌≡◌, ℕ, List, length, take, drop, Result, ◌∙◌, ap, subst, arith}
 use Rattle.raf_format.specs.Cipher.{cipher_of}
-use Rattle.raf_format.specs.File.{Shape, shape_of, tag_len, chunk_len, record_len}
+use Rattle.raf_format.specs.File.{shape_of, record_len}
 use Rattle.raf.specs.Plan.{kept_len}
 use Rattle.raf.specs.Put.{put_chunk, record_for}
 use Rattle.raf.specs.Carry.{Puts, OfTrees, Leafed}

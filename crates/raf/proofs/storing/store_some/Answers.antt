@@ -1,6 +1,6 @@
-use Rattle.std.proofs.Common.{◌≡◌, ℕ, suc, ◌+◌, ◌-◌, ◌<◌, ◌≤◌, List, length, take, drop, Result, Ok, Err, refl, sym, ◌∙◌, ap, subst, arith}
+use Rattle.std.proofs.Common.{◌≡◌, ℕ, suc, ◌+◌, ◌-◌, List, length, take, drop, Result, Ok, ◌∙◌, ap, subst, arith}
 use Rattle.raf_format.specs.Cipher.{cipher_of}
-use Rattle.raf.specs.Carry.{Puts, Going, Stores, Draws, kept_in, buffer_of}
+use Rattle.raf.specs.Carry.{Puts, Going, Stores, kept_in, buffer_of}
 use Rattle.raf_io.specs.declared.errors.Error.{Error}
 use Rattle.raf.proofs.Tears.{handed_result}
 use Rattle.raf.proofs.SameTrees.{same_room}

@@ -1,4 +1,4 @@
-use Rattle.std.proofs.Common.{◌≡◌, ◌-◌, ◌<◌, ◌≤◌, length, take, drop, ◌+◌}
+use Rattle.std.proofs.Common.{◌≡◌, ◌-◌, ◌<◌, ◌≤◌, length, take, ◌+◌}
 use Rattle.raf_format.specs.Cipher.{cipher_of}
 use Rattle.raf.specs.Carry.{Going, kept_in, buffer_of}
 use Rattle.raf.proofs.storing.store_some.Given as goal
