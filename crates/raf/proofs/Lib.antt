@@ -23,6 +23,9 @@ pub mod NotOpened
 pub mod Grown
 pub mod Headed
 pub mod Openings
+pub mod NewFiles
+pub mod Builders
+pub mod Makings
 pub mod Placed
 pub mod Spans
 pub mod Overlaid

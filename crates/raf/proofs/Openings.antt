@@ -46,14 +46,14 @@ no_tree None t is other = cc
 no_tree (Some u) t is other = cc
 
 -- the limit of a tree of the same size
-shapes_limit : (a b : Option Tree) → SameTree a b → option_map (λ (t : Tree). t.max_chunks) b ≡ option_map (λ (t : Tree). t.max_chunks) a
+pub shapes_limit : (a b : Option Tree) → SameTree a b → option_map (λ (t : Tree). t.max_chunks) b ≡ option_map (λ (t : Tree). t.max_chunks) a
 shapes_limit None None s = refl
 shapes_limit (Some t) (Some u) s = ap (λ (n : ℕ). Some n) s.max_chunks
 shapes_limit None (Some u) s = absurd s
 shapes_limit (Some t) None s = absurd s
 
 -- the tree that one of the same size was
-shaped_from : (a b : Option Tree) (u : Tree) → SameTree a b → b ≡ Some u → (t : Tree) × (a ≡ Some t)
+pub shaped_from : (a b : Option Tree) (u : Tree) → SameTree a b → b ≡ Some u → (t : Tree) × (a ≡ Some t)
 shaped_from (Some t) b u s is = (t, refl)
 shaped_from None (Some x) u s is = absurd s
 shaped_from None None u s is = cc
@@ -62,7 +62,7 @@ some_tree : (o : Option Tree) → is_some o ≡ true → (t : Tree) × (o ≡ So
 some_tree (Some t) is = (t, refl)
 some_tree None is = cc
 
-with_hasher : (E : List ℕ → Hashing) (setting : Option (List ℕ)) (tree : Option Tree) (t : Tree) → Paired E setting tree → tree ≡ Some t → is_some setting ≡ true
+pub with_hasher : (E : List ℕ → Hashing) (setting : Option (List ℕ)) (tree : Option Tree) (t : Tree) → Paired E setting tree → tree ≡ Some t → is_some setting ≡ true
 with_hasher E (Some s) tree t paired is = refl
 with_hasher E None (Some u) t paired is = absurd paired
 with_hasher E None None t paired is = cc

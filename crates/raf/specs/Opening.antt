@@ -1,5 +1,5 @@
 -- How a file is opened and made, and why not (this project's own).
-use Rattle.std.specs.Prelude.{◌≡◌, ◌≢◌, ℕ, ◌+◌, ◌*◌, ◌<◌, ◌≤◌, min, Bool, true, false, List, [], length, max, Option, Some, None, Result, IfErr, OnOk, ⊤, ◌⊎◌, is_some}
+use Rattle.std.specs.Prelude.{◌≡◌, ◌≢◌, ℕ, ◌+◌, ◌*◌, ◌<◌, ◌≤◌, min, Bool, true, false, List, [], length, max, Option, Some, None, Result, IfOk, IfErr, OnOk, ⊤, ◌⊎◌, is_some}
 use Rattle.raf_tree.specs.Hashing.{Hashing}
 use Rattle.raf_tree.specs.Tree.{height}
 use Rattle.raf_tree.specs.Made.{CanBeMade, RefusesTree}
@@ -10,6 +10,7 @@ use Rattle.raf_format.specs.File.{File, IsFile, Opens, shape_of, layout_len, chu
 use Rattle.counts.specs.Counts.{Rose}
 use Rattle.raf_io.specs.Kinds.{kind_of}
 use Rattle.raf_io.specs.declared.errors.Error.{Error}
+use Rattle.raf_io.specs.Storage.{IsLengthOf}
 use Rattle.raf_io.specs.Source.{Takes, TakesAtMost, IsShort}
 use Rattle.raf_format.specs.Version.{version_number}
 use Rattle.raf.specs.declared.creating.Fresh.{Fresh}
@@ -200,6 +201,16 @@ pub record PutNew (header : List ℕ) (size : ℕ) (old new : Outside) (result :
   pub began : Rose old.changes new.changes
   pub strays : new.strays ≡ old.strays
 
+-- how many bytes a storage holds that a new file may be made in, or why there may be none
+pub record Freed (truncate : Bool) (old new : Outside) (result : Result ℕ Error) : Type 0 where
+  pub size : IfOk result (λ n. IsLengthOf old.bytes n × (truncate ≡ false → n ≡ 0))
+  pub failed : IfErr result (λ e. kind_of e ≡ Io → Caused Io old new)
+  pub exists : IfErr result (λ e. (kind_of e ≡ Io) ⊎ ((kind_of e ≡ AlreadyExists) × (truncate ≡ false) × ((b : List ℕ) → old.bytes ≡ Some b → b ≢ []) × Quiet old new))
+  pub quiet : OnOk result (Quiet old new)
+  pub kept : Kept old new
+  pub moved : Moved old new 0 0 0 0 0
+  pub strays : new.strays ≡ old.strays
+
 -- why no file was made, each cause where none before it stands
 abbrev pub WhyNotMade : (List ℕ → Hashing) → Settings → Outside → ErrorKind → Type 0
 WhyNotMade E s old (InvalidArgument reason.ChunkSize) = IsChunkSize s.chunk_size → ⊥
@@ -209,11 +220,11 @@ WhyNotMade E s old Rng = CanMake E s × IsFree s old × (old.exact ≡ true → 
 WhyNotMade E s old Hash = CanMake E s × IsFree s old × (is_some s.outside.setting ≡ true)
 WhyNotMade E s old kind = IsChunkSize s.chunk_size × WhyNoTree E s.outside.setting s.most 0 kind
 
--- a making that was refused: a storage that was not written to has its bytes
+-- a making that was refused: unless the storage failed after it was written to, it has its bytes
 pub record NotMade (E : List ℕ → Hashing) (s : Settings) (old new : Outside) (kind : ErrorKind) : Type 0 where
   pub why : WhyNotMade E s old kind
   pub fault : RefusalFault kind old new
-  pub kept : new.changes ≡ old.changes → (new.bytes ≡ old.bytes) × (new.durable ≡ old.durable)
+  pub kept : ((kind ≡ Io) × Rose old.changes new.changes → ⊥) → (new.bytes ≡ old.bytes) × (new.durable ≡ old.durable)
   pub left : TakesAtMost old.left 32 new.left
   pub moved : Moved old new 96 96 32 2 1
   pub strays : new.strays ≡ old.strays

@@ -1,6 +1,7 @@
 //! What a file is made and opened with.
 ghost use Rattle.std.specs.Prelude.{◌≡◌, ◌+◌, List, ℕ, Some, None, Option, IfOk, IfErr, true, false};
 ghost use Rattle.raf_format.specs.Cipher.{cipher_of};
+ghost use Rattle.raf.specs.Outside.{over_storage};
 ghost use Rattle.raf.specs.Opening.{Opened, NotOpened, Made, NotMade, IsNewBuilder};
 ghost use Rattle.raf_format.specs.Version.{version_number};
 ghost use Rattle.raf_io.specs.Kinds.{kind_of};
@@ -222,24 +223,8 @@ impl<A: Algorithm, R: RafRng, H: MerkleHasher> RafBuilder<A, R, H> {
         io: I,
         key: &A::Key,
     ) -> Result<Raf<A, I, R, H>, OpenError<I, R, H>>
-        ensures made { IfOk result (λ raf. Made (cipher_of A.variant) H.hashing (A.key_list key.now) self (record self.outside {
-          bytes = I.bytes io;
-          durable = I.durable io;
-          io_faults = I.faults io;
-          reach = I.reach io;
-          traffic = I.traffic io;
-          changes = I.changes io;
-          strays = I.strays io;
-        }) raf) }
-        ensures refused { IfErr result (λ e. NotMade H.hashing self (record self.outside {
-          bytes = I.bytes io;
-          durable = I.durable io;
-          io_faults = I.faults io;
-          reach = I.reach io;
-          traffic = I.traffic io;
-          changes = I.changes io;
-          strays = I.strays io;
-        }) e.outside e.kind) }
+        ensures made { IfOk result (λ raf. Made (cipher_of A.variant) H.hashing (A.key_list key.now) self (over_storage (I.bytes io) (I.durable io) (I.faults io) (I.reach io) (I.traffic io) (I.changes io) (I.strays io) self.outside) raf) }
+        ensures refused { IfErr result (λ e. NotMade H.hashing self (over_storage (I.bytes io) (I.durable io) (I.faults io) (I.reach io) (I.traffic io) (I.changes io) (I.strays io) self.outside) e.outside e.kind) }
     {
         let RafBuilder {
             rng,
@@ -267,24 +252,8 @@ impl<A: Algorithm, R: RafRng, H: MerkleHasher> RafBuilder<A, R, H> {
         io: I,
         key: &A::Key,
     ) -> Result<Raf<A, I, R, H>, OpenError<I, R, H>>
-        ensures opened { IfOk result (λ raf. Opened (cipher_of A.variant) H.hashing (A.key_list key.now) self.most (record self.outside {
-          bytes = I.bytes io;
-          durable = I.durable io;
-          io_faults = I.faults io;
-          reach = I.reach io;
-          traffic = I.traffic io;
-          changes = I.changes io;
-          strays = I.strays io;
-        }) raf) }
-        ensures refused { IfErr result (λ e. NotOpened (cipher_of A.variant) H.hashing (A.key_list key.now) self.most (record self.outside {
-          bytes = I.bytes io;
-          durable = I.durable io;
-          io_faults = I.faults io;
-          reach = I.reach io;
-          traffic = I.traffic io;
-          changes = I.changes io;
-          strays = I.strays io;
-        }) e.outside e.kind) }
+        ensures opened { IfOk result (λ raf. Opened (cipher_of A.variant) H.hashing (A.key_list key.now) self.most (over_storage (I.bytes io) (I.durable io) (I.faults io) (I.reach io) (I.traffic io) (I.changes io) (I.strays io) self.outside) raf) }
+        ensures refused { IfErr result (λ e. NotOpened (cipher_of A.variant) H.hashing (A.key_list key.now) self.most (over_storage (I.bytes io) (I.durable io) (I.faults io) (I.reach io) (I.traffic io) (I.changes io) (I.strays io) self.outside) e.outside e.kind) }
     {
         let RafBuilder {
             rng,

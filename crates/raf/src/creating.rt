@@ -5,7 +5,7 @@ ghost use Rattle.raf_format.specs.Cipher.{cipher_of};
 ghost use Rattle.raf_format.specs.Version.{version_number};
 ghost use Rattle.raf_io.specs.Kinds.{kind_of};
 ghost use Rattle.raf.specs.Handle.{handle_of, Paired};
-ghost use Rattle.raf.specs.Opening.{Settings, Made, NotMade, FreshOf, PutNew};
+ghost use Rattle.raf.specs.Opening.{Settings, Made, NotMade, FreshOf, Freed, PutNew};
 ghost use Rattle.raf_format.specs.Header.{InRange, sealed_header};
 ghost use Rattle.raf.specs.Outside.{Outside};
 
@@ -14,7 +14,7 @@ use crate::opening::{OpenFile, rooms};
 use crate::outside::Parts;
 use raf_format::{Algorithm, Header, Version, algorithm_number, write_header};
 use raf_io::{Error, RafIo, RafRng, Reason};
-use raf_tree::MerkleHasher;
+use raf_tree::{MerkleHasher, tree_laws};
 use std::alloc::Global;
 
 /// What a new file is like.
@@ -26,6 +26,21 @@ pub struct Fresh {
     pub chunk_size: u32,
     /// Whether the file may take the place of what the storage holds.
     pub truncate: bool,
+}
+
+// How many bytes the storage holds, where a new file may be made in it.
+fn freed<I: RafIo, R: RafRng, H: MerkleHasher>(
+    parts: &mut Parts<I, R, H>,
+    truncate: bool,
+) -> Result<u64, Error>
+    ensures { Freed truncate parts.old parts.new result }
+{
+    let size = parts.size()?;
+    if truncate || size == 0 {
+        Ok(size)
+    } else {
+        Err(Error::AlreadyExists)
+    }
 }
 
 // Puts the header of a new file into the storage, in place of what it holds.
@@ -62,6 +77,7 @@ pub fn make_file<A: Algorithm, I: RafIo, R: RafRng, H: MerkleHasher>(
     if fresh.chunk_size < 16 || fresh.chunk_size > 1048576 {
         return Err(Error::InvalidArgument(Reason::ChunkSize));
     }
+    tree_laws();
     let mut tree = tree_for::<H>(alloc, &parts.hasher, max_chunks, 0)?;
     let mut header = Header {
         version: fresh.version.number(),
@@ -71,10 +87,7 @@ pub fn make_file<A: Algorithm, I: RafIo, R: RafRng, H: MerkleHasher>(
         id: [0u8; 32],
     };
     let rooms = rooms::<A>(alloc, &header)?;
-    let size = parts.size()?;
-    if size > 0 && !fresh.truncate {
-        return Err(Error::AlreadyExists);
-    }
+    let size = freed::<I, R, H>(parts, fresh.truncate)?;
     parts.fill(&mut header.id)?;
     parts.build(&mut tree, 0)?;
     put_new::<A, I, R, H>(parts, key, &header, size)?;

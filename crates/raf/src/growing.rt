@@ -1,5 +1,5 @@
 //! The tree of a file: how it is made for a hasher, and made anew from the file's chunks.
-ghost use Rattle.std.specs.Prelude.{◌≡◌, ◌+◌, ◌-◌, ◌*◌, ◌^◌, ◌<◌, ◌≤◌, List, ℕ, length, Some, is_some, IfOk, IfErr, OnOk, true, false};
+ghost use Rattle.std.specs.Prelude.{◌≡◌, ◌+◌, ◌-◌, ◌*◌, ◌^◌, ◌<◌, ◌≤◌, List, ℕ, length, Some, is_some, IfOk, IfErr, OnOk, OnErr, true, false};
 ghost use Rattle.std.specs.Option.{option_map};
 ghost use Rattle.counts.specs.Counts.{Rose};
 ghost use Rattle.raf_tree.specs.Kept.{Kept, tree_height};
@@ -57,6 +57,8 @@ impl<I: RafIo, R: RafRng, H: MerkleHasher> Parts<I, R, H> {
         ensures failed { IfErr result (λ e. (kind_of e ≡ ErrorKind.Hash) × Caused ErrorKind.Hash self.old self.new × Rose self.old.calls self.new.calls) }
         ensures quiet { OnOk result (Quiet self.old self.new) }
         ensures moved { Moved self.old self.new 0 0 0 0 (self.new.calls - self.old.calls) }
+        ensures there { OnErr result (is_some self.old.setting ≡ true) }
+        ensures one { count ≡ 0 → self.new.calls ≤ self.old.calls + 1 }
         ensures calls { (t : Kept) → tree.old ≡ Some t → self.new.calls ≤ self.old.calls + count + 2 * tree_height t + 1 }
         ensures strays { self.new.strays ≡ self.old.strays }
     {

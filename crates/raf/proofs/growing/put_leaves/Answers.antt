@@ -38,7 +38,7 @@ returns-in_err-put_leaf-clause-stopped g c =
     (leaves_unhashed C g.H.MerkleHasher.hashing K h c.args.parts.now c.args.tree.now index c.loop-index.parts c.load.new.parts c.loop-index.tree c.loop-index.begun
     c.requires.sound (omega (arith, c.loop-index-test.true, c.count_of-index-end.ensures)) c.loop-index.invariant.so_far
     c.put_leaf.new.self c.put_leaf.new.tree c.load.new.buf c.chunk_of-chunk.result.now loads.quiet loads.kept loads.moved loads.strays
-    put.asked c.requires.some put.shapes put.kept put.moved put.strays e put.failed)
+    put.asked c.requires.some put.same put.kept put.moved put.strays e put.failed)
 
 pub loop-index-preserved : goal.loop-index-preserved
 loop-index-preserved g c =
@@ -53,8 +53,8 @@ loop-index-preserved g c =
       so_far = leaves_more C g.H.MerkleHasher.hashing K h c.args.parts.now c.args.tree.now index c.loop-index.parts c.load.new.parts c.loop-index.tree c.loop-index.begun
           c.requires.sound (omega (arith, c.loop-index-test.true, c.count_of-index-end.ensures)) c.loop-index.invariant.so_far
           c.put_leaf.new.self c.put_leaf.new.tree c.load.new.buf c.chunk_of-chunk.result.now loads.quiet loads.kept loads.moved loads.strays
-          put.asked c.requires.some put.shapes put.kept put.moved put.strays c.tree_laws.ensures c.requires.room
-          (λ b tells. loads.loaded b tells ∙ ap (λ (m : List ℕ). Some m) (sym c.chunk_of-chunk.ensures.chunk)) put.put put.quiet;
+          put.asked c.requires.some put.same put.kept put.moved put.strays c.tree_laws.ensures c.requires.room
+          (λ b tells. loads.loaded b tells ∙ ap (λ (m : List ℕ). Some m) (sym c.chunk_of-chunk.ensures.chunk)) put.leaf put.quiet;
     }
 
 pub returns-clause-put : goal.returns-clause-put
