@@ -120,8 +120,8 @@ module _ (C : Cipher) (E : List ℕ → Hashing) (K : List ℕ) (h : Header) (a 
       stopped = elim (cases_lt 0 index) [
         | inl some ↦ inl ((so_far.some some).0, rose (so_far.some some).1 (omega (arith, moved.calls_later)))
         | inr none ↦
-          let z : index ≡ 0 = omega (arith, none) in
-          inr ((so_far.none z).0, omega (arith, z, so_far.moved.calls_later, so_far.moved.calls_most, moved.calls_later, moved.calls_most), (so_far.none z).1)
+            let z : index ≡ 0 = omega (arith, none) in
+            inr ((so_far.none z).0, omega (arith, z, so_far.moved.calls_later, so_far.moved.calls_most, moved.calls_later, moved.calls_most), (so_far.none z).1)
       ];
     }
       where
