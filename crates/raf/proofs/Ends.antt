@@ -2,7 +2,7 @@
 use Rattle.std.proofs.Common.{◌≡◌, inl, inr, Bool, true, false, ℕ, ◌+◌, ◌≤◌, max, List, [], ◌∷◌, ◌++◌, length, take, drop, Option, Some, None, refl, sym, ◌∙◌, ap, subst, arith, length-append, append_assoc}
 use Rattle.std.proofs.lemmas.List.{take_all, take_at}
 use Rattle.std.proofs.lemmas.Bool.{false≢true}
-use Rattle.raf_io.specs.Source.{Takes, TakesAtMost}
+use Rattle.raf_io.specs.Source.{Takes, TakesAtMost, IsShort}
 use Rattle.raf_tree.specs.Hashing.{Hashing}
 use Rattle.raf_format.specs.Cipher.{Cipher, IsLawful}
 use Rattle.raf_format.specs.File.{File, Opens, file_layout}
@@ -76,6 +76,7 @@ module _ (C : Cipher) (lawful : IsLawful C) (E : List ℕ → Hashing) (old : Ha
     quiet = λ _. quiet_same old.outside old.outside refl;
     key = refl;
     limit = refl;
+    exact = refl;
     setting = refl;
   }
 
@@ -122,6 +123,7 @@ module _ (C : Cipher) (lawful : IsLawful C) (E : List ℕ → Hashing) (old : Ha
       quiet = λ unmarked. quiet_then old.outside mid.outside new.outside (progress.quiet unmarked) (either (λ h k. Quiet h.outside k.outside) (quiet_same mid.outside mid.outside refl) (λ w. w.quiet calm));
       key = either (λ h k. k.key ≡ h.key) refl (λ w. w.stays.key) ∙ progress.key;
       limit = either (λ h k. limit_of k ≡ limit_of h) refl (λ w. w.stays.limit) ∙ progress.limit;
+      exact = either (λ h k. k.outside.exact ≡ h.outside.exact) refl (λ w. (w.bounded (outline C mid.header) (inr refl)).exact) ∙ progress.exact;
       setting = either (λ h k. k.outside.setting ≡ h.outside.setting) refl (λ w. (w.bounded (outline C mid.header) (inr refl)).setting) ∙ progress.setting;
     }
 
@@ -148,6 +150,7 @@ module _ (C : Cipher) (lawful : IsLawful C) (E : List ℕ → Hashing) (old : Ha
             cause = caused_later failed.kind old.outside mid.outside new.outside (progress.quiet unmarked) failed.cause;
             due = subst (λ (o : Option ℕ). Faultable o failed.kind F' c) progress.limit (failed.may F' (inl s.holds));
             middle = mid.outside.left;
+            short = λ is exact. subst (λ (o : Option ℕ). IsShort mid.outside.left (asked_by o F' c)) progress.limit (failed.short F' (inl s.holds) is (progress.exact ∙ exact));
             taken = s.taken;
             left = subst (λ (o : Option ℕ). TakesAtMost mid.outside.left (asked_by o F' c) new.outside.left) progress.limit cut.left;
             bytes = cut.bytes;

@@ -1,5 +1,5 @@
--- A chunk whose record could not be read.
-use Rattle.std.proofs.Common.{◌≡◌, ℕ, ◌+◌, ◌≤◌, List, ◌++◌, length, take, drop, Some, Result, Ok, Err, sym, ◌∙◌, ap, subst, arith, length-drop}
+-- The record of a chunk that was read, or could not be read.
+use Rattle.std.proofs.Common.{◌≡◌, Bool, true, false, ℕ, ◌+◌, ◌≤◌, List, ◌++◌, length, take, drop, Option, Some, None, Result, Ok, Err, sym, ◌∙◌, ap, subst, arith, length-drop}
 use Rattle.std.proofs.lemmas.List.{take-append-le, drop-append-le}
 use Rattle.raf_format.specs.Cipher.{Cipher}
 use Rattle.std.specs.Result.{OnOk, IsErrAnd}
@@ -9,7 +9,17 @@ use Rattle.raf.specs.Outside.{Outside, Kept, Caused, Moved}
 use Rattle.raf_io.specs.Kinds.{kind_of}
 use Rattle.raf_format.specs.declared.header.Header.{Header}
 use Rattle.raf_io.specs.declared.errors.Error.{Error}
+use Rattle.raf_io.specs.declared.errors.Error.TheVariants as error
 use Rattle.raf_io.specs.declared.errors.ErrorKind.TheVariants.{Io, AuthenticationFailed}
+use Rattle.raf_format.specs.Cipher.{IsLawful, IsTagLen}
+use Rattle.raf_format.specs.Version.{tag_len_of}
+use Rattle.raf_format.specs.File.{StandsFor, record_at, unsealed}
+use Rattle.raf_format.specs.Record.{middle}
+use Rattle.std.specs.Bool.{OnTrue, OnFalse}
+use Rattle.raf_format.proofs.Versions.{is_tag_len}
+use Rattle.raf_format.proofs.Opened.{one_answer}
+use Rattle.raf_io.specs.Storage.{ReadsFrom}
+use Rattle.raf.specs.Outside.{Quiet}
 use Rattle.raf.proofs.Moves.{unopened_io}
 
 -- a read that failed
@@ -31,3 +41,41 @@ loads_failed C K h index old new after (Err x) e is why kept moved strays = reco
   where
     other : Io ≡ AuthenticationFailed → ⊥
     other same = cc
+
+-- a record that was read and looked at
+module _ (C : Cipher) (lawful : IsLawful C) (K : List ℕ) (h : Header) (index : ℕ) (old new : Outside) (got after : List ℕ) (t : ℕ)
+    (tag : t ≡ tag_len_of h.version) (long : length got ≡ record_len (shape_of C h) h.file_size index) (longs : length after ≡ length got)
+    (reads : ReadsFrom old.bytes (record_start (shape_of C h) index) got) (quiet : Quiet old new) (kept : Kept old new)
+    (moved : Moved old new (record_start (shape_of C h) index + record_len (shape_of C h) h.file_size index) (record_len (shape_of C h) h.file_size index) 0 0 0)
+    (strays : (b : List ℕ) → old.bytes ≡ Some b → layout_len (shape_of C h) h.file_size ≤ length b → new.strays ≡ old.strays) where
+  same : (b : List ℕ) → old.bytes ≡ Some b → chunk_at C K h b index ≡ unsealed C t K h.id index got
+  same b tells =
+      let there : ReadsFrom (Some b) (record_start (shape_of C h) index) got = subst (λ (o : Option (List ℕ)). ReadsFrom o (record_start (shape_of C h) index) got) tells reads in
+      ap (λ (n : ℕ). unsealed C n K h.id index (record_at (shape_of C h) h.file_size index b)) (sym tag)
+      ∙ ap (λ (r : List ℕ). unsealed C t K h.id index r) (sym (there.1 ∙ ap (λ (n : ℕ). take n (drop (record_start (shape_of C h) index) b)) long))
+
+  answer : (o : Option (List ℕ)) → StandsFor C t K h.id index got o → unsealed C t K h.id index got ≡ o
+  answer o stands = one_answer C lawful t (subst IsTagLen (sym tag) (is_tag_len h.version)) K h.id got index o stands
+
+  pub loads_found : (r : Bool) → r ≡ true → OnTrue r (StandsFor C t K h.id index got (Some (middle C t after))) → Loads C K h index old new after (Ok tt)
+  loads_found r is opened = let stands = subst (λ (r : Bool). OnTrue r (StandsFor C t K h.id index got (Some (middle C t after)))) is opened in record {
+    loaded = λ b tells. same b tells ∙ answer (Some (middle C t after)) stands
+        ∙ ap (λ (n : ℕ). Some (take n (drop C.nonce_len after))) (omega (arith, longs, long, tag));
+    missing = λ b tells. tt;
+    kinds = tt;
+    quiet = quiet;
+    kept = kept;
+    moved = moved;
+    strays = strays;
+  }
+
+  pub loads_missing : (r : Bool) → r ≡ false → OnFalse r (StandsFor C t K h.id index got None) → Loads C K h index old new after (Err error.AuthenticationFailed)
+  loads_missing r is closed = let stands = subst (λ (r : Bool). OnFalse r (StandsFor C t K h.id index got None)) is closed in record {
+    loaded = λ b tells. tt;
+    missing = λ b tells auth. same b tells ∙ answer None stands;
+    kinds = quiet;
+    quiet = tt;
+    kept = kept;
+    moved = moved;
+    strays = strays;
+  }

@@ -1,5 +1,5 @@
 -- How storage, random source and hasher move over several calls.
-use Rattle.std.proofs.Common.{◌≡◌, Bool, true, false, ℕ, ◌+◌, ◌≤◌, max, List, [], ◌++◌, Option, Some, None, refl, sym, ◌∙◌, subst, ap, arith, append_assoc}
+use Rattle.std.proofs.Common.{◌≡◌, Bool, true, false, ℕ, ◌+◌, ◌-◌, ◌≤◌, max, List, [], ◌++◌, Option, Some, None, refl, sym, ◌∙◌, subst, ap, arith, append_assoc}
 use Rattle.counts.specs.Counts.{Rose}
 use Rattle.raf_io.specs.Source.{Takes}
 use Rattle.raf.specs.Outside.{Outside, Kept, Quiet, Caused, Moved}
@@ -140,3 +140,24 @@ takes_then None (Some y) c xs ys t u = absurd t
 takes_then (Some x) None c xs ys t u = absurd t
 takes_then (Some x) (Some y) None xs ys t u = absurd u
 takes_then (Some x) (Some y) (Some z) xs ys t u = t ∙ ap (λ (l : List ℕ). xs ++ l) u ∙ sym (append_assoc xs ys z)
+
+-- the hashes that were asked, counted
+pub moved_counted : (a b : Outside) (end traffic asked changes calls : ℕ) → Moved a b end traffic asked changes calls → Moved a b end traffic asked changes (b.calls - a.calls)
+moved_counted a b end traffic asked changes calls m = record {
+  exact = m.exact;
+  setting = m.setting;
+  io_later = m.io_later;
+  rng_later = m.rng_later;
+  hash_later = m.hash_later;
+  reach_later = m.reach_later;
+  reach_most = m.reach_most;
+  traffic_later = m.traffic_later;
+  traffic_most = m.traffic_most;
+  asked_later = m.asked_later;
+  asked_most = m.asked_most;
+  changes_later = m.changes_later;
+  changes_most = m.changes_most;
+  calls_later = m.calls_later;
+  calls_most = omega (arith, m.calls_later);
+  strays_later = m.strays_later;
+}

@@ -22,7 +22,7 @@ use Rattle.raf_format.specs.declared.header.Header.{Header}
 use Rattle.raf_io.proofs.Splices.{length-resized}
 use Rattle.raf.proofs.Chunks.{chunk_length}
 use Rattle.raf.proofs.Placed.{placed_same}
-use Rattle.raf.proofs.Finished.{finished_is}
+use Rattle.raf.proofs.AfterChange.{finished_is}
 use Rattle.raf.proofs.Fills.{kept_enough, kept_short}
 use Rattle.raf.proofs.Ranges.{planned_spans, touched_ranged}
 use Rattle.raf.proofs.Spans.{count_above}

@@ -228,6 +228,9 @@ module _ (C : Cipher) (lawful : IsLawful C) (E : List ℕ → Hashing) (key : Li
     pub went_unread : (a b : Outside) (before buf : List ℕ) (e : Error) → Unread C K h offset first stop a b before buf e → Went C E (at a) (at b) (Read offset len) (Refused (kind_of e))
     went_unread a b before buf e unread = go (kind_of e) refl unread.kind
       where
+        not_rng : Io ≡ Rng → ⊥
+        not_rng is = cc
+
         go : (k : ErrorKind) → kind_of e ≡ k → Unopened k a b → Went C E (at a) (at b) (Read offset len) (Refused k)
         go Io is caused =
             went_still C E (at a) (at b) (Read offset len) (Refused Io) refl refl refl refl unmarked unread.kept.bytes unread.kept.left
@@ -237,6 +240,7 @@ module _ (C : Cipher) (lawful : IsLawful C) (E : List ℕ → Hashing) (key : Li
               is = refl;
               cause = caused;
               may = measured (λ F. Faultable (limit_of (at a)) Io F (Read offset len)) a (λ chunks. (free (limit_of (at a)) chunks, concerned chunks));
+              short = λ F measures is exact. absurd (not_rng is);
             })
             (λ calm. absurd (false≢true (sym calm)))
             (λ calm. absurd (false≢true (sym calm)))

@@ -19,7 +19,7 @@ use Rattle.raf_format.specs.declared.header.Header.{Header}
 use Rattle.raf_format.proofs.Versions.{is_tag_len}
 use Rattle.raf_format.proofs.SealedHeaders.{length_header, sealed_says, sealed_tagged}
 use Rattle.raf.proofs.Imaged.{piece}
-use Rattle.raf.proofs.Finished.{Parts, image_parts}
+use Rattle.raf.proofs.AfterChange.{Parts, image_parts}
 use Rattle.raf.proofs.Pictures.{length-rebuilt, length-new, chunks_at, new_header, tests, renewed_at, chunk_is, chunk_stays, front_same, old_is, old_at as old_of, made as made_of}
 use Rattle.raf.proofs.Chunks.{length-chunks}
 use Rattle.raf.proofs.Ranges.{planned_spans}

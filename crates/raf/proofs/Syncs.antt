@@ -22,7 +22,7 @@ use Rattle.raf.specs.declared.command.Reply.{Reply}
 use Rattle.raf.specs.declared.command.Reply.TheVariants.{Done, Refused}
 use Rattle.raf_io.specs.declared.errors.Error.{Error}
 use Rattle.raf_io.specs.declared.errors.ErrorKind.{ErrorKind}
-use Rattle.raf_io.specs.declared.errors.ErrorKind.TheVariants.{Io, AuthenticationFailed, MerkleNotEnabled}
+use Rattle.raf_io.specs.declared.errors.ErrorKind.TheVariants.{Io, AuthenticationFailed, MerkleNotEnabled, Rng}
 use Rattle.raf.proofs.Moves.{moved_any}
 use Rattle.raf.proofs.StillSteps.{went_still}
 
@@ -41,6 +41,9 @@ module _ (C : Cipher) (E : List ℕ → Hashing) (old new : Handle) (key : new.k
   other : Sync ≡ Rebuild → ⊥
   other is = cc
 
+  not_rng : Io ≡ Rng → ⊥
+  not_rng is = cc
+
   authentic : (F : File) (held : Holds C old F) → Authentic C old.key held.bytes F Sync (apply (limit_of old) F Sync).0
   authentic F held = tt
 
@@ -51,7 +54,7 @@ module _ (C : Cipher) (E : List ℕ → Hashing) (old new : Handle) (key : new.k
   went reply calm fault quiet synced =
       went_still C E old new Sync reply refl key header tree unmarked bytes left
       (λ F held is. (subst (λ (p : Due × File). Answers (λ r. OfTree E old (KeptAnswer F Sync r)) p.0 reply) (sym (apply_sync (limit_of old) F)) (calm is), authentic F held))
-      (λ is. record { kind = Io; is = (fault is).0; cause = (fault is).1; may = λ F measures. (ap (λ (p : Due × File). is_barred p.0) (apply_sync (limit_of old) F), omega arith) })
+      (λ is. record { kind = Io; is = (fault is).0; cause = (fault is).1; may = λ F measures. (ap (λ (p : Due × File). is_barred p.0) (apply_sync (limit_of old) F), omega arith); short = λ F measures is exact. absurd (not_rng is) })
       quiet
       (λ is. inr (calm is))
       (λ F measures. moved_any old.outside new.outside _ _ _ _ _ moved)

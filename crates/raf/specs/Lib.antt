@@ -16,3 +16,4 @@ pub mod Put
 pub mod Carry
 pub mod Session
 pub mod Ran
+pub mod Growing

@@ -1,16 +1,24 @@
 -- How a file is opened and made, and why not (this project's own).
-use Rattle.std.specs.Prelude.{◌≡◌, ◌≢◌, ℕ, ◌+◌, ◌*◌, ◌<◌, ◌≤◌, min, Bool, true, false, List, [], length, Option, Some, None, ⊤, ◌⊎◌, is_some}
+use Rattle.std.specs.Prelude.{◌≡◌, ◌≢◌, ℕ, ◌+◌, ◌*◌, ◌<◌, ◌≤◌, min, Bool, true, false, List, [], length, max, Option, Some, None, Result, IfOk, IfErr, OnOk, ⊤, ◌⊎◌, is_some}
 use Rattle.raf_tree.specs.Hashing.{Hashing}
 use Rattle.raf_tree.specs.Tree.{height}
 use Rattle.raf_tree.specs.Made.{CanBeMade, RefusesTree}
 use Rattle.raf_tree.specs.declared.tree.TreeError.TheVariants as tree
 use Rattle.raf_format.specs.Cipher.{Cipher}
 use Rattle.raf_format.specs.Header.{Says, Tagged, sealed_header}
-use Rattle.raf_format.specs.File.{File, Opens, shape_of, layout_len, chunk_count, file_of}
+use Rattle.raf_format.specs.File.{File, IsFile, Opens, shape_of, layout_len, chunk_count, file_of}
+use Rattle.counts.specs.Counts.{Rose}
+use Rattle.raf_io.specs.Kinds.{kind_of}
+use Rattle.raf_io.specs.declared.errors.Error.{Error}
+use Rattle.raf_io.specs.Storage.{IsLengthOf}
 use Rattle.raf_io.specs.Source.{Takes, TakesAtMost, IsShort}
+use Rattle.raf_format.specs.Version.{version_number}
+use Rattle.raf.specs.declared.creating.Fresh.{Fresh}
 use Rattle.raf.specs.Concern.{none_missing}
 use Rattle.raf.specs.Outside.{Outside, Kept, Quiet, Caused, Moved}
-use Rattle.raf.specs.Handle.{Handle, Holds, WithTree, Grown, limit_of}
+use Rattle.raf.specs.Handle.{Handle, Holds, WithTree, Grown, Paired, HasRoom, limit_of}
+use Rattle.std.specs.Option.{option_map}
+use Rattle.raf_tree.specs.Kept.{Kept as Tree}
 use Rattle.raf_format.specs.declared.header.Header.{Header}
 use Rattle.raf_io.specs.declared.errors.ErrorKind.{ErrorKind}
 use Rattle.raf_io.specs.declared.errors.ErrorKind.TheVariants.{Io, InvalidArgument, AuthenticationFailed, AlreadyExists, Overflow, Rng, Hash, OutOfMemory}
@@ -25,18 +33,38 @@ pub record Settings : Type 0 where
   pub most : Option ℕ
   pub outside : Outside
 
+-- a builder without a hasher, as it begins: a new file is of version 1 and has chunks of 65536 bytes, and takes the place of none
+pub record IsNewBuilder (left : Option (List ℕ)) (rng_faults asked : ℕ) (exact : Bool) (s : Settings) : Type 0 where
+  pub version : s.version ≡ 1
+  pub chunk_size : s.chunk_size ≡ 65536
+  pub truncate : s.truncate ≡ false
+  pub most : s.most ≡ None
+  pub setting : s.outside.setting ≡ None
+  pub left_is : s.outside.left ≡ left
+  pub faults_are : s.outside.rng_faults ≡ rng_faults
+  pub asked_is : s.outside.asked ≡ asked
+  pub exact_is : s.outside.exact ≡ exact
+
 -- why a file was not opened or made, with what was handed in
 pub record Refusal : Type 0 where
   pub kind : ErrorKind
   pub outside : Outside
 
 -- there is a hasher, and the length of its hashes under its setting and the limit of chunks meet this
-abbrev pub OfHasher : (List ℕ → Hashing) → Settings → (ℕ → ℕ → Type 0) → Type 0
-OfHasher E s P = (setting : List ℕ) × (most : ℕ) × (s.outside.setting ≡ Some setting) × (s.most ≡ Some most) × P (E setting).len most
+abbrev pub OfHasher : (List ℕ → Hashing) → Option (List ℕ) → Option ℕ → (ℕ → ℕ → Type 0) → Type 0
+OfHasher E setting most P = (x : List ℕ) × (n : ℕ) × (setting ≡ Some x) × (most ≡ Some n) × P (E x).len n
 
 -- where there is a hasher, its tree can be made, and has room for so many chunks
-abbrev pub Room : (List ℕ → Hashing) → Settings → ℕ → Type 0
-Room E s count = (setting : List ℕ) (most : ℕ) → s.outside.setting ≡ Some setting → s.most ≡ Some most → CanBeMade (E setting).len most × (count ≤ most)
+abbrev pub Room : (List ℕ → Hashing) → Option (List ℕ) → Option ℕ → ℕ → Type 0
+Room E setting most count = (x : List ℕ) (n : ℕ) → setting ≡ Some x → most ≡ Some n → CanBeMade (E x).len n × (count ≤ n)
+
+-- why a hasher gets no tree for so many chunks, each cause where none before it stands
+abbrev pub WhyNoTree : (List ℕ → Hashing) → Option (List ℕ) → Option ℕ → ℕ → ErrorKind → Type 0
+WhyNoTree E setting most count (InvalidArgument reason.HashLen) = OfHasher E setting most (λ len n. RefusesTree len n tree.HashLen)
+WhyNoTree E setting most count (InvalidArgument reason.MaxChunks) = OfHasher E setting most (λ len n. RefusesTree len n tree.MaxChunks)
+WhyNoTree E setting most count Overflow = OfHasher E setting most (λ len n. RefusesTree len n tree.Overflow ⊎ (CanBeMade len n × (n < count)))
+WhyNoTree E setting most count OutOfMemory = ⊤
+WhyNoTree E setting most count _ = ⊥
 
 -- the header is of this algorithm, and the length fits it
 pub record LaidOut (C : Cipher) (b : List ℕ) (h : Header) : Type 0 where
@@ -53,35 +81,26 @@ WhyNotLaidOut C b (InvalidArgument reason.Layout) = (h : Header) × Says b h × 
 WhyNotLaidOut C b _ = ⊥
 
 -- why bytes with such a header and length were not opened, each cause where none before it stands
-abbrev pub WhyNotRead : Cipher → (List ℕ → Hashing) → List ℕ → Settings → List ℕ → Header → ErrorKind → Type 0
-WhyNotRead C E key s b h (InvalidArgument reason.HashLen) = OfHasher E s (λ len most. RefusesTree len most tree.HashLen)
-WhyNotRead C E key s b h (InvalidArgument reason.MaxChunks) = OfHasher E s (λ len most. RefusesTree len most tree.MaxChunks)
-WhyNotRead C E key s b h Overflow =
-    OfHasher E s (λ len most. RefusesTree len most tree.Overflow ⊎ (CanBeMade len most × (most < chunk_count h.chunk_size h.file_size)))
-WhyNotRead C E key s b h AuthenticationFailed =
-    Room E s (chunk_count h.chunk_size h.file_size)
-    × ((Tagged C key b → ⊥) ⊎ (Tagged C key b × (is_some s.outside.setting ≡ true) × (none_missing (λ _. true) 0 (file_of C key h b).chunks ≡ false)))
-WhyNotRead C E key s b h Hash = Room E s (chunk_count h.chunk_size h.file_size) × Tagged C key b × (is_some s.outside.setting ≡ true)
-WhyNotRead C E key s b h OutOfMemory = ⊤
-WhyNotRead C E key s b h _ = ⊥
+abbrev pub WhyNotRead : Cipher → (List ℕ → Hashing) → List ℕ → Option (List ℕ) → Option ℕ → List ℕ → Header → ErrorKind → Type 0
+WhyNotRead C E key setting most b h AuthenticationFailed =
+    Room E setting most (chunk_count h.chunk_size h.file_size)
+    × ((Tagged C key b → ⊥) ⊎ (Tagged C key b × (is_some setting ≡ true) × (none_missing (λ _. true) 0 (file_of C key h b).chunks ≡ false)))
+WhyNotRead C E key setting most b h Hash = Room E setting most (chunk_count h.chunk_size h.file_size) × Tagged C key b × (is_some setting ≡ true)
+WhyNotRead C E key setting most b h kind = WhyNoTree E setting most (chunk_count h.chunk_size h.file_size) kind
 
 -- why the bytes that a storage tells were not opened, each cause where none before it stands
-abbrev pub WhyNotOpened : Cipher → (List ℕ → Hashing) → List ℕ → Settings → List ℕ → ErrorKind → Type 0
-WhyNotOpened C E key s b kind = WhyNotLaidOut C b kind ⊎ ((h : Header) × LaidOut C b h × WhyNotRead C E key s b h kind)
+abbrev pub WhyNotOpened : Cipher → (List ℕ → Hashing) → List ℕ → Option (List ℕ) → Option ℕ → List ℕ → ErrorKind → Type 0
+WhyNotOpened C E key setting most b kind = WhyNotLaidOut C b kind ⊎ ((h : Header) × LaidOut C b h × WhyNotRead C E key setting most b h kind)
 
 -- what numbers alone say of a refusal, whatever the storage tells
-abbrev pub NumbersRefuse : (List ℕ → Hashing) → Settings → ErrorKind → Type 0
-NumbersRefuse E s (InvalidArgument reason.Header) = ⊤
-NumbersRefuse E s (InvalidArgument reason.AlgorithmMismatch) = ⊤
-NumbersRefuse E s (InvalidArgument reason.Layout) = ⊤
-NumbersRefuse E s (InvalidArgument reason.HashLen) = OfHasher E s (λ len most. RefusesTree len most tree.HashLen)
-NumbersRefuse E s (InvalidArgument reason.MaxChunks) = OfHasher E s (λ len most. RefusesTree len most tree.MaxChunks)
-NumbersRefuse E s Overflow = OfHasher E s (λ len most. RefusesTree len most tree.Overflow ⊎ CanBeMade len most)
-NumbersRefuse E s AuthenticationFailed = Room E s 0
-NumbersRefuse E s Hash = Room E s 0 × (is_some s.outside.setting ≡ true)
-NumbersRefuse E s Io = ⊤
-NumbersRefuse E s OutOfMemory = ⊤
-NumbersRefuse E s _ = ⊥
+abbrev pub NumbersRefuse : (List ℕ → Hashing) → Option (List ℕ) → Option ℕ → ErrorKind → Type 0
+NumbersRefuse E setting most (InvalidArgument reason.Header) = ⊤
+NumbersRefuse E setting most (InvalidArgument reason.AlgorithmMismatch) = ⊤
+NumbersRefuse E setting most (InvalidArgument reason.Layout) = ⊤
+NumbersRefuse E setting most Io = ⊤
+NumbersRefuse E setting most AuthenticationFailed = Room E setting most 0
+NumbersRefuse E setting most Hash = Room E setting most 0 × (is_some setting ≡ true)
+NumbersRefuse E setting most kind = (count : ℕ) × WhyNoTree E setting most count kind
 
 -- the one that a fault names has failed, and with any other kind none
 abbrev pub RefusalFault : ErrorKind → Outside → Outside → Type 0
@@ -109,22 +128,46 @@ pub record Looked (old new : Outside) (most : Option ℕ) : Type 0 where
   pub header_alone : most ≡ None → Moved old new 96 96 0 0 0
   pub strays : (b : List ℕ) → old.bytes ≡ Some b → new.strays ≡ old.strays
 
--- an opening that was refused
-pub record NotOpened (C : Cipher) (E : List ℕ → Hashing) (key : List ℕ) (s : Settings) (old new : Outside) (kind : ErrorKind) : Type 0 where
-  pub why : (b : List ℕ) → old.bytes ≡ Some b → WhyNotOpened C E key s b kind
-  pub numbers : NumbersRefuse E s kind
+-- a tree for so many chunks goes with a hasher under this setting, where there is one
+pub record TreeMade (E : List ℕ → Hashing) (setting : Option (List ℕ)) (most : Option ℕ) (count : ℕ) (made : Option Tree) : Type 0 where
+  pub paired : Paired E setting made
+  pub limit : option_map (λ t. t.max_chunks) made ≡ most
+  pub has_room : HasRoom count made
+  pub room : Room E setting most count
+
+-- an opening that was refused, under the limit of chunks that a builder has
+pub record NotOpened (C : Cipher) (E : List ℕ → Hashing) (key : List ℕ) (most : Option ℕ) (old new : Outside) (kind : ErrorKind) : Type 0 where
+  pub why : (b : List ℕ) → old.bytes ≡ Some b → WhyNotOpened C E key old.setting most b kind
+  pub numbers : NumbersRefuse E old.setting most kind
   pub fault : RefusalFault kind old new
-  pub looked : Looked old new s.most
+  pub looked : Looked old new most
+
+-- no more was asked of a storage of this many bytes than a header that lies in them
+pub record Within (old new : Outside) (len : ℕ) : Type 0 where
+  pub reach : new.reach ≤ max old.reach len
+  pub traffic : new.traffic ≤ old.traffic + min 96 len
+  pub strays : new.strays ≡ old.strays
+
+-- an opening up to the tree, which has no leaves yet
+pub record OpenedBare (C : Cipher) (E : List ℕ → Hashing) (key : List ℕ) (most : Option ℕ) (old : Outside) (now : Handle) : Type 0 where
+  pub key_is : now.key ≡ key
+  pub unmarked : now.broken ≡ false
+  pub made : TreeMade E old.setting most (chunk_count now.header.chunk_size now.header.file_size) now.tree
+  pub is_file : (b : List ℕ) → old.bytes ≡ Some b → IsFile C key b now.header
+  pub quiet : Quiet old now.outside
+  pub kept : Kept old now.outside
+  pub moved : Moved old now.outside 96 96 0 0 0
+  pub within : (b : List ℕ) → old.bytes ≡ Some b → Within old now.outside (length b)
 
 -- an opening: the new handle has this key, no kept mark and the builder's limit, in which its chunks have room; the storage opens to the
 -- file that it holds; and with a hasher the kept tree is that of its chunks
-pub record Opened (C : Cipher) (E : List ℕ → Hashing) (key : List ℕ) (s : Settings) (old : Outside) (now : Handle) : Type 0 where
+pub record Opened (C : Cipher) (E : List ℕ → Hashing) (key : List ℕ) (most : Option ℕ) (old : Outside) (now : Handle) : Type 0 where
   pub key_is : now.key ≡ key
   pub unmarked : now.broken ≡ false
-  pub limit : limit_of now ≡ s.most
-  pub room : Room E s (chunk_count now.header.chunk_size now.header.file_size)
+  pub limit : limit_of now ≡ most
+  pub room : Room E old.setting most (chunk_count now.header.chunk_size now.header.file_size)
   pub quiet : Quiet old now.outside
-  pub looked : Looked old now.outside s.most
+  pub looked : Looked old now.outside most
   pub holds : (b : List ℕ) → old.bytes ≡ Some b → (F : File) × Opens C key b F × Holds C now F × WithTree E now (Grown F)
 
 -- the chunk sizes of a file
@@ -134,30 +177,54 @@ IsChunkSize n = (16 ≤ n) × (n ≤ 1048576)
 -- the numbers of a new file are right
 pub record CanMake (E : List ℕ → Hashing) (s : Settings) : Type 0 where
   pub chunk_size : IsChunkSize s.chunk_size
-  pub room : Room E s 0
+  pub room : Room E s.outside.setting s.most 0
+
+-- a builder's settings, from what it holds: how a new file is to be, the limit of a hasher's tree, and what was handed in
+pub record FreshOf (fresh : Fresh) (max_chunks : ℕ) (old : Outside) (s : Settings) : Type 0 where
+  pub version : s.version ≡ version_number fresh.version
+  pub chunk_size : s.chunk_size ≡ fresh.chunk_size
+  pub truncate : s.truncate ≡ fresh.truncate
+  pub most : s.most ≡ option_map (λ _. max_chunks) old.setting
+  pub setting : s.outside.setting ≡ old.setting
 
 -- the storage may become a new file: it is empty, or may be written over
 abbrev pub IsFree : Settings → Outside → Type 0
 IsFree s old = s.truncate ≡ false → (b : List ℕ) → old.bytes ≡ Some b → b ≡ []
 
+-- a header was put in place of what a storage of this many bytes holds, or the storage failed
+pub record PutNew (header : List ℕ) (size : ℕ) (old new : Outside) (result : Result (Unit {0}) Error) : Type 0 where
+  pub put : (b : List ℕ) → old.bytes ≡ Some b → length b ≡ size → OnOk result (new.bytes ≡ Some header)
+  pub failed : IfErr result (λ e. (kind_of e ≡ Io) × Caused Io old new)
+  pub quiet : OnOk result (Quiet old new)
+  pub left : new.left ≡ old.left
+  pub moved : Moved old new 96 96 0 2 0
+  pub began : Rose old.changes new.changes
+  pub strays : new.strays ≡ old.strays
+
+-- how many bytes a storage holds that a new file may be made in, or why there may be none
+pub record Freed (truncate : Bool) (old new : Outside) (result : Result ℕ Error) : Type 0 where
+  pub size : IfOk result (λ n. IsLengthOf old.bytes n × (truncate ≡ false → n ≡ 0))
+  pub failed : IfErr result (λ e. kind_of e ≡ Io → Caused Io old new)
+  pub exists : IfErr result (λ e. (kind_of e ≡ Io) ⊎ ((kind_of e ≡ AlreadyExists) × (truncate ≡ false) × ((b : List ℕ) → old.bytes ≡ Some b → b ≢ []) × Quiet old new))
+  pub quiet : OnOk result (Quiet old new)
+  pub kept : Kept old new
+  pub moved : Moved old new 0 0 0 0 0
+  pub strays : new.strays ≡ old.strays
+
 -- why no file was made, each cause where none before it stands
 abbrev pub WhyNotMade : (List ℕ → Hashing) → Settings → Outside → ErrorKind → Type 0
 WhyNotMade E s old (InvalidArgument reason.ChunkSize) = IsChunkSize s.chunk_size → ⊥
-WhyNotMade E s old (InvalidArgument reason.HashLen) = IsChunkSize s.chunk_size × OfHasher E s (λ len most. RefusesTree len most tree.HashLen)
-WhyNotMade E s old (InvalidArgument reason.MaxChunks) = IsChunkSize s.chunk_size × OfHasher E s (λ len most. RefusesTree len most tree.MaxChunks)
-WhyNotMade E s old Overflow = IsChunkSize s.chunk_size × OfHasher E s (λ len most. RefusesTree len most tree.Overflow)
-WhyNotMade E s old OutOfMemory = IsChunkSize s.chunk_size
 WhyNotMade E s old Io = CanMake E s
 WhyNotMade E s old AlreadyExists = CanMake E s × (s.truncate ≡ false) × ((b : List ℕ) → old.bytes ≡ Some b → b ≢ [])
 WhyNotMade E s old Rng = CanMake E s × IsFree s old × (old.exact ≡ true → IsShort old.left 32)
 WhyNotMade E s old Hash = CanMake E s × IsFree s old × (is_some s.outside.setting ≡ true)
-WhyNotMade E s old _ = ⊥
+WhyNotMade E s old kind = IsChunkSize s.chunk_size × WhyNoTree E s.outside.setting s.most 0 kind
 
--- a making that was refused: a storage that was not written to has its bytes
+-- a making that was refused: unless the storage failed after it was written to, it has its bytes
 pub record NotMade (E : List ℕ → Hashing) (s : Settings) (old new : Outside) (kind : ErrorKind) : Type 0 where
   pub why : WhyNotMade E s old kind
   pub fault : RefusalFault kind old new
-  pub kept : new.changes ≡ old.changes → (new.bytes ≡ old.bytes) × (new.durable ≡ old.durable)
+  pub kept : ((kind ≡ Io) × Rose old.changes new.changes → ⊥) → (new.bytes ≡ old.bytes) × (new.durable ≡ old.durable)
   pub left : TakesAtMost old.left 32 new.left
   pub moved : Moved old new 96 96 32 2 1
   pub strays : new.strays ≡ old.strays

@@ -23,6 +23,25 @@ pub record Outside : Type 0 where
   pub hash_faults : ℕ
   pub calls : ℕ
 
+-- the same random source and hasher, beside a storage that tells and counts this
+abbrev pub over_storage : (bytes durable : Option (List ℕ)) (io_faults reach traffic changes strays : ℕ) → Outside → Outside
+over_storage bytes durable io_faults reach traffic changes strays o = record {
+  bytes = bytes;
+  durable = durable;
+  io_faults = io_faults;
+  reach = reach;
+  traffic = traffic;
+  changes = changes;
+  strays = strays;
+  left = o.left;
+  rng_faults = o.rng_faults;
+  asked = o.asked;
+  exact = o.exact;
+  setting = o.setting;
+  hash_faults = o.hash_faults;
+  calls = o.calls;
+}
+
 -- a count of the hasher, where there is one
 abbrev pub counted : {H : Type 0} → (H → ℕ) → Option H → ℕ
 counted count None = 0

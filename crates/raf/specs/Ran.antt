@@ -39,6 +39,7 @@ pub record Progress (C : Cipher) (E : List ℕ → Hashing) (old now : Handle) (
   pub quiet : old.broken ≡ false → Quiet old.outside now.outside
   pub key : now.key ≡ old.key
   pub limit : limit_of now ≡ limit_of old
+  pub exact : now.outside.exact ≡ old.outside.exact
   pub setting : now.outside.setting ≡ old.outside.setting
 
 -- commands that are done, up to the first fault

@@ -150,7 +150,7 @@ module _ (G : Ground) where
 abbrev pub Refusal : Cipher → (List ℕ → Hashing) → List ℕ → Settings → List Command → Outside → Outside → ErrorKind → Type 0
 Refusal C E key s commands before after kind =
     ((2 ^ 64 ≤ room_total (hash_len_of E s.outside.setting) commands) × (kind ≡ Overflow) × (after ≡ before))
-    ⊎ ((room_total (hash_len_of E s.outside.setting) commands < 2 ^ 64) × NotOpened C E key s before after kind)
+    ⊎ ((room_total (hash_len_of E s.outside.setting) commands < 2 ^ 64) × NotOpened C E key s.most before after kind)
 
 -- how commands on an open file ended, over a storage that tells
 pub record Ran (G : Ground) (F : File) (b : List ℕ) (commands : List Command) (before after : Outside) (replies : List Reply) : Type 0 where

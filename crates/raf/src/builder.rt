@@ -1,11 +1,16 @@
 //! What a file is made and opened with.
 ghost use Rattle.std.specs.Prelude.{◌≡◌, ◌+◌, List, ℕ, Some, None, Option, IfOk, IfErr, true, false};
 ghost use Rattle.raf_format.specs.Cipher.{cipher_of};
-ghost use Rattle.raf.specs.Opening.{Opened, NotOpened, Made, NotMade};
+ghost use Rattle.raf.specs.Outside.{over_storage};
+ghost use Rattle.raf.specs.Opening.{Opened, NotOpened, Made, NotMade, IsNewBuilder};
+ghost use Rattle.raf_format.specs.Version.{version_number};
 ghost use Rattle.raf_io.specs.Kinds.{kind_of};
 
+use crate::creating::{Fresh, make_file};
 use crate::file::Raf;
-use raf_format::Algorithm;
+use crate::opening::open_file;
+use crate::outside::Parts;
+use raf_format::{Algorithm, Version};
 use raf_io::{Error, RafIo, RafRng};
 use raf_tree::{MerkleHasher, NoMerkle};
 use std::alloc::Global;
@@ -17,9 +22,7 @@ pub struct RafBuilder<A: Algorithm, R: RafRng, H: MerkleHasher> {
     rng: R,
     hasher: Option<H>,
     most: u64,
-    version: u8,
-    chunk_size: u32,
-    truncate: bool,
+    fresh: Fresh,
     algorithm: PhantomData<A>,
 }
 
@@ -28,13 +31,14 @@ impl<A: Algorithm, R: RafRng, H: MerkleHasher> Model for RafBuilder<A, R, H> {
     ghost use Rattle.std.specs.Option.{option_map};
     ghost use Rattle.raf.specs.Outside.{counted};
     ghost use Rattle.raf.specs.Opening.{Settings};
+    ghost use Rattle.raf_format.specs.Version.{version_number};
 
     ghost Value = { Settings };
 
     ghost view = { λ b. record {
-      version = b.version;
-      chunk_size = b.chunk_size;
-      truncate = b.truncate;
+      version = version_number b.fresh.version;
+      chunk_size = b.fresh.chunk_size;
+      truncate = b.fresh.truncate;
       most = option_map (λ _. b.most) b.hasher;
       outside = record {
         bytes = None;
@@ -97,46 +101,90 @@ impl<I: RafIo, R: RafRng, H: MerkleHasher> Model for OpenError<I, R, H> {
     } };
 }
 
+impl<I: RafIo, R: RafRng, H: MerkleHasher> OpenError<I, R, H> {
+    // An error, with what was handed in.
+    fn of(error: Error, parts: Parts<I, R, H>) -> OpenError<I, R, H>
+        ensures { result ≡ record { kind = kind_of error; outside = parts } }
+    {
+        let Parts { io, rng, hasher } = parts;
+        OpenError {
+            error,
+            io,
+            rng,
+            hasher,
+        }
+    }
+}
+
 impl<A: Algorithm, R: RafRng> RafBuilder<A, R, NoMerkle> {
     /// This source and no hasher. A new file is of version 1 and has chunks of 65536 bytes, and takes the place of none.
     pub fn new(rng: R) -> RafBuilder<A, R, NoMerkle>
-        ensures new_file { (result.version ≡ 1) × (result.chunk_size ≡ 65536) × (result.truncate ≡ false) }
-        ensures none { (result.most ≡ None) × (result.outside.setting ≡ None) }
-        ensures rng { (result.outside.left ≡ R.left rng) × (result.outside.rng_faults ≡ R.faults rng) × (result.outside.asked ≡ R.asked rng) }
+        ensures { IsNewBuilder (R.left rng) (R.faults rng) (R.asked rng) R.exact result }
     {
         RafBuilder {
             rng,
             hasher: None,
             most: 0,
-            version: 1,
-            chunk_size: 65536,
-            truncate: false,
+            fresh: Fresh {
+                version: Version::V1,
+                chunk_size: 65536,
+                truncate: false,
+            },
             algorithm: PhantomData,
         }
+    }
+
+    /// The same as [`RafBuilder::new`].
+    pub fn with_rng(rng: R) -> RafBuilder<A, R, NoMerkle>
+        ensures { IsNewBuilder (R.left rng) (R.faults rng) (R.asked rng) R.exact result }
+    {
+        RafBuilder::<A, R, NoMerkle>::new(rng)
     }
 }
 
 impl<A: Algorithm, R: RafRng, H: MerkleHasher> RafBuilder<A, R, H> {
-    /// A new file has chunks of this size.
-    pub fn chunk_size(self, size: u32) -> RafBuilder<A, R, H>
+    /// A new file has chunks of this size, in bytes: 16 to 1048576.
+    pub fn chunk_size(mut self, size: u32) -> RafBuilder<A, R, H>
         ensures { result ≡ record self { chunk_size = size } }
     {
+        self.fresh.chunk_size = size;
+        self
+    }
+
+    /// A new file is of this version of the layout.
+    pub fn version(mut self, version: Version) -> RafBuilder<A, R, H>
+        ensures { result ≡ record self { version = version_number version } }
+    {
+        self.fresh.version = version;
+        self
+    }
+
+    /// Whether a new file may take the place of what the storage holds.
+    pub fn truncate(mut self, yes: bool) -> RafBuilder<A, R, H>
+        ensures { result ≡ record self { truncate = yes } }
+    {
+        self.fresh.truncate = yes;
+        self
+    }
+
+    /// This source of random bytes.
+    pub fn rng<R2: RafRng>(self, rng: R2) -> RafBuilder<A, R2, H>
+        ensures { result ≡ record self {
+          outside = record self.outside { left = R2.left rng; rng_faults = R2.faults rng; asked = R2.asked rng; exact = R2.exact };
+        } }
+    {
         let RafBuilder {
-            rng,
+            rng: _,
             hasher,
             most,
-            version,
-            chunk_size: _,
-            truncate,
+            fresh,
             algorithm: _,
         } = self;
         RafBuilder {
             rng,
             hasher,
             most,
-            version,
-            chunk_size: size,
-            truncate,
+            fresh,
             algorithm: PhantomData,
         }
     }
@@ -152,96 +200,72 @@ impl<A: Algorithm, R: RafRng, H: MerkleHasher> RafBuilder<A, R, H> {
             rng,
             hasher: _,
             most: _,
-            version,
-            chunk_size,
-            truncate,
+            fresh,
             algorithm: _,
         } = self;
         RafBuilder {
             rng,
             hasher: Some(hasher),
             most: max_chunks,
-            version,
-            chunk_size,
-            truncate,
+            fresh,
             algorithm: PhantomData,
         }
     }
 
-    /// Makes an empty file in `io`, under `key`.
+    /// Makes an empty file in `io`, under `key`, of the version and the chunk size that were set. A storage that isn't empty is written
+    /// over only where `truncate` was set. What was handed in comes back with a refusal, and no byte changed before the header was
+    /// written. The refusals, in their order: `InvalidArgument` where the chunk size isn't 16 to 1048576 bytes; with a hasher those of
+    /// [`raf_tree::Tree::new`]; `OutOfMemory`; `Io` of the storage's size; `AlreadyExists`; `Rng` of the 32 bytes of the id; `Hash` of
+    /// the tree's root; `Io` of the header and of the cut.
     pub fn create<I: RafIo>(
         self,
         alloc: Global,
         io: I,
         key: &A::Key,
     ) -> Result<Raf<A, I, R, H>, OpenError<I, R, H>>
-        ensures made { IfOk result (λ raf. Made (cipher_of A.variant) H.hashing (A.key_list key.now) self (record self.outside {
-          bytes = I.bytes io;
-          durable = I.durable io;
-          io_faults = I.faults io;
-          reach = I.reach io;
-          traffic = I.traffic io;
-          changes = I.changes io;
-          strays = I.strays io;
-        }) raf) }
-        ensures refused { IfErr result (λ e. NotMade H.hashing self (record self.outside {
-          bytes = I.bytes io;
-          durable = I.durable io;
-          io_faults = I.faults io;
-          reach = I.reach io;
-          traffic = I.traffic io;
-          changes = I.changes io;
-          strays = I.strays io;
-        }) e.outside e.kind) }
+        ensures made { IfOk result (λ raf. Made (cipher_of A.variant) H.hashing (A.key_list key.now) self (over_storage (I.bytes io) (I.durable io) (I.faults io) (I.reach io) (I.traffic io) (I.changes io) (I.strays io) self.outside) raf) }
+        ensures refused { IfErr result (λ e. NotMade H.hashing self (over_storage (I.bytes io) (I.durable io) (I.faults io) (I.reach io) (I.traffic io) (I.changes io) (I.strays io) self.outside) e.outside e.kind) }
     {
-        self.out_of_memory::<I>(io)
+        let RafBuilder {
+            rng,
+            hasher,
+            most,
+            fresh,
+            algorithm: _,
+        } = self;
+        let mut parts = Parts { io, rng, hasher };
+        match make_file::<A, I, R, H>(alloc, &mut parts, key, most, &fresh) {
+            Ok(file) => Ok(Raf::of(parts, file)),
+            Err(error) => Err(OpenError::of(error, parts)),
+        }
     }
 
-    /// Opens the file in `io`, under `key`. It ignores the settings of a new file.
+    /// Opens the file in `io`, under `key`. It ignores the settings of a new file, and never writes. What was handed in comes back with a
+    /// refusal. The refusals, in their order: `Io` of the storage's size and of its header, and `InvalidArgument` where there is no
+    /// header, where it is of another algorithm or where the storage's length doesn't fit it; with a hasher those of
+    /// [`raf_tree::Tree::new`], and `Overflow` where there are more chunks than it may have; `AuthenticationFailed` where the header's
+    /// tag is wrong; with a hasher, chunk by chunk, `Io`, `AuthenticationFailed` where it doesn't open, and `Hash`. `OutOfMemory` may
+    /// stand anywhere behind the header.
     pub fn open<I: RafIo>(
         self,
         alloc: Global,
         io: I,
         key: &A::Key,
     ) -> Result<Raf<A, I, R, H>, OpenError<I, R, H>>
-        ensures opened { IfOk result (λ raf. Opened (cipher_of A.variant) H.hashing (A.key_list key.now) self (record self.outside {
-          bytes = I.bytes io;
-          durable = I.durable io;
-          io_faults = I.faults io;
-          reach = I.reach io;
-          traffic = I.traffic io;
-          changes = I.changes io;
-          strays = I.strays io;
-        }) raf) }
-        ensures refused { IfErr result (λ e. NotOpened (cipher_of A.variant) H.hashing (A.key_list key.now) self (record self.outside {
-          bytes = I.bytes io;
-          durable = I.durable io;
-          io_faults = I.faults io;
-          reach = I.reach io;
-          traffic = I.traffic io;
-          changes = I.changes io;
-          strays = I.strays io;
-        }) e.outside e.kind) }
+        ensures opened { IfOk result (λ raf. Opened (cipher_of A.variant) H.hashing (A.key_list key.now) self.most (over_storage (I.bytes io) (I.durable io) (I.faults io) (I.reach io) (I.traffic io) (I.changes io) (I.strays io) self.outside) raf) }
+        ensures refused { IfErr result (λ e. NotOpened (cipher_of A.variant) H.hashing (A.key_list key.now) self.most (over_storage (I.bytes io) (I.durable io) (I.faults io) (I.reach io) (I.traffic io) (I.changes io) (I.strays io) self.outside) e.outside e.kind) }
     {
-        self.out_of_memory::<I>(io)
-    }
-
-    // (A stand-in of the bodies.)
-    fn out_of_memory<I: RafIo>(self, io: I) -> Result<Raf<A, I, R, H>, OpenError<I, R, H>> {
         let RafBuilder {
             rng,
             hasher,
-            most: _,
-            version: _,
-            chunk_size: _,
-            truncate: _,
+            most,
+            fresh: _,
             algorithm: _,
         } = self;
-        Err(OpenError {
-            error: Error::OutOfMemory,
-            io,
-            rng,
-            hasher,
-        })
+        let mut parts = Parts { io, rng, hasher };
+        match open_file::<A, I, R, H>(alloc, &mut parts, key, most) {
+            Ok(file) => Ok(Raf::of(parts, file)),
+            Err(error) => Err(OpenError::of(error, parts)),
+        }
     }
 }

@@ -3,7 +3,7 @@ ghost use Rattle.std.specs.Prelude.{◌≡◌, ◌+◌, ◌<◌, ◌≤◌, List
 ghost use Rattle.std.specs.Option.{option_map};
 ghost use Rattle.raf_format.specs.Cipher.{cipher_of};
 ghost use Rattle.raf_format.specs.File.{File};
-ghost use Rattle.raf.specs.Handle.{Holds, hash_len_of};
+ghost use Rattle.raf.specs.Handle.{Holds, Paired, handle_of, hash_len_of};
 ghost use Rattle.raf.specs.Read.{OldOrOpened};
 ghost use Rattle.raf.specs.Stepped.{Stepped, read_reply, write_reply, done_reply, verify_reply, commitment_reply};
 ghost use Rattle.raf_io.specs.Kinds.{kind_of};
@@ -47,6 +47,14 @@ impl<A: Algorithm, I: RafIo, R: RafRng, H: MerkleHasher> Drop for Raf<A, I, R, H
 }
 
 impl<A: Algorithm, I: RafIo, R: RafRng, H: MerkleHasher> Raf<A, I, R, H> {
+    /// An open file of these parts.
+    pub(crate) fn of(parts: Parts<I, R, H>, file: OpenFile<A>) -> Self
+        requires { Paired H.hashing parts.setting file.tree }
+        ensures { result ≡ handle_of parts (A.key_list file.key) file.header file.tree file.broken }
+    {
+        Raf { parts, file }
+    }
+
     /// The bytes from an offset on, as many as the buffer has, that lie below the size: how many they are. After a refusal each place of
     /// the buffer has its old byte, or one of a chunk that opened.
     pub fn read(&mut self, buf: &mut [u8], offset: u64) -> Result<usize, Error>

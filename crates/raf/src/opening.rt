@@ -1,15 +1,19 @@
 //! What an open file keeps, and how its header is found.
-ghost use Rattle.std.specs.Prelude.{◌≡◌, ◌+◌, ◌^◌, ◌≤◌, max, List, ℕ, length, Some, None, false, MatchOption, IfOk, IfErr, OnOk};
+ghost use Rattle.std.specs.Prelude.{◌≡◌, ◌+◌, ◌^◌, ◌≤◌, List, ℕ, length, is_some, true, Option, Some, None, false, MatchOption, IfOk, IfErr, OnOk, OnErr};
+ghost use Rattle.std.specs.Option.{option_map};
 ghost use Rattle.raf_format.specs.Cipher.{cipher_of};
 ghost use Rattle.raf.specs.Loaded.{Front};
 ghost use Rattle.raf_format.specs.File.{IsFile, shape_of, chunk_count, layout_len};
 ghost use Rattle.raf_format.specs.Version.{tag_len_of};
-ghost use Rattle.raf.specs.Handle.{HasRoom};
+ghost use Rattle.raf.specs.Handle.{HasRoom, Paired, handle_of};
 ghost use Rattle.raf.specs.Loaded.{Sound};
 ghost use Rattle.raf.specs.Outside.{Kept, Quiet, Moved};
-ghost use Rattle.raf.specs.Opening.{LaidOut, WhyNotLaidOut, WhyNotOpened, Settings, RefusalFault};
+ghost use Rattle.raf.specs.Opening.{LaidOut, WhyNotLaidOut, NotOpened, Opened, OpenedBare, Within, RefusalFault, NumbersRefuse};
+ghost use Rattle.raf_tree.specs.Hashing.{Hashing};
+ghost use Rattle.raf.specs.Growing.{Grew};
 ghost use Rattle.raf_io.specs.Kinds.{kind_of};
 
+use crate::growing::{grow, tree_for};
 use crate::outside::Parts;
 use raf_format::{
     Algorithm, Header, algorithm_number, chunk_key, header_tag_fits, layout_len, nonce_length,
@@ -56,6 +60,18 @@ impl<A: Algorithm> Drop for OpenFile<A> {
     }
 }
 
+/// How many chunks a file has.
+pub fn count_of(header: &Header) -> u64
+    requires { 1 ≤ header.now.chunk_size }
+    ensures { result ≡ chunk_count header.now.chunk_size header.now.file_size }
+{
+    if header.file_size == 0 {
+        0
+    } else {
+        (header.file_size - 1) / u64::from(header.chunk_size) + 1
+    }
+}
+
 // How many bytes the storage of a file has, or None exactly where that is no `u64`.
 fn layout_of<A: Algorithm>(header: &Header) -> Option<u64>
     requires least { 16 ≤ header.now.chunk_size }
@@ -86,11 +102,12 @@ pub fn find_header<A: Algorithm, I: RafIo, R: RafRng, H: MerkleHasher>(
     ensures found { (b : List ℕ) → parts.old.bytes ≡ Some b → IfOk result (λ f. LaidOut (cipher_of A.variant) b f.header × Front b f.bytes) }
     ensures sound { IfOk result (λ f. Sound (cipher_of A.variant) f.header) }
     ensures refused { (b : List ℕ) → parts.old.bytes ≡ Some b → IfErr result (λ e. WhyNotLaidOut (cipher_of A.variant) b (kind_of e)) }
+    ensures numbers { IfErr result (λ e. (E : List ℕ → Hashing) (setting : Option (List ℕ)) (most : Option ℕ) → NumbersRefuse E setting most (kind_of e)) }
     ensures fault { IfErr result (λ e. RefusalFault (kind_of e) parts.old parts.new) }
     ensures quiet { OnOk result (Quiet parts.old parts.new) }
     ensures kept { Kept parts.old parts.new }
     ensures moved { Moved parts.old parts.new 96 96 0 0 0 }
-    ensures within { (b : List ℕ) → parts.old.bytes ≡ Some b → (parts.new.strays ≡ parts.old.strays) × (parts.new.reach ≤ max parts.old.reach (length b)) }
+    ensures within { (b : List ℕ) → parts.old.bytes ≡ Some b → Within parts.old parts.new (length b) }
 {
     let size = parts.size()?;
     if size < 96 {
@@ -123,37 +140,105 @@ fn room(alloc: Global, len: usize) -> Result<Vec<u8>, Error>
     }
 }
 
-/// Opens a file without a hasher. All the memory that it needs later is taken here.
-pub fn open_plain<A: Algorithm, I: RafIo, R: RafRng, H: MerkleHasher>(
-    alloc: Global,
-    parts: &mut Parts<I, R, H>,
-    key: &A::Key,
-) -> Result<OpenFile<A>, Error>
-    ensures file { (b : List ℕ) → parts.old.bytes ≡ Some b → IfOk result (λ f. IsFile (cipher_of A.variant) (A.key_list key.now) b f.header) }
-    ensures new { IfOk result (λ f. (f.key ≡ key.now) × (f.tree ≡ None) × (f.broken ≡ false)) }
-    ensures refused { (b : List ℕ) (s : Settings) → parts.old.bytes ≡ Some b → s.outside.setting ≡ None → IfErr result (λ e. WhyNotOpened (cipher_of A.variant) H.hashing (A.key_list key.now) s b (kind_of e)) }
-    ensures fault { IfErr result (λ e. RefusalFault (kind_of e) parts.old parts.new) }
-    ensures quiet { OnOk result (Quiet parts.old parts.new) }
-    ensures kept { Kept parts.old parts.new }
-    ensures moved { Moved parts.old parts.new 96 96 0 0 0 }
-    ensures within { (b : List ℕ) → parts.old.bytes ≡ Some b → (parts.new.strays ≡ parts.old.strays) × (parts.new.reach ≤ max parts.old.reach (length b)) }
+/// Room for two records of a file with this header.
+pub fn rooms<A: Algorithm>(alloc: Global, header: &Header) -> Result<(Vec<u8>, Vec<u8>), Error>
+    requires { header.now.chunk_size ≤ 1048576 }
+    ensures first { IfOk result (λ r. length r.0.items ≡ (cipher_of A.variant).nonce_len + header.now.chunk_size + tag_len_of header.now.version) }
+    ensures second { IfOk result (λ r. length r.1.items ≡ (cipher_of A.variant).nonce_len + header.now.chunk_size + tag_len_of header.now.version) }
+    ensures none { IfErr result (λ e. kind_of e ≡ ErrorKind.OutOfMemory) }
 {
-    let found = find_header::<A, I, R, H>(parts)?;
-    let header = found.header;
     let len = nonce_length::<A>() + header.chunk_size as usize + header.tag_len();
     let first = room(alloc, len)?;
     let second = room(alloc, len)?;
+    Ok((first, second))
+}
+
+impl<A: Algorithm> OpenFile<A> {
+    /// A file with this header, key, tree and rooms.
+    pub fn of(key: &A::Key, header: &Header, rooms: (Vec<u8>, Vec<u8>), tree: Option<Tree>) -> Self
+        requires sound { Sound (cipher_of A.variant) header.now }
+        requires room { HasRoom (chunk_count header.now.chunk_size header.now.file_size) tree }
+        requires first { length rooms.0.items ≡ (cipher_of A.variant).nonce_len + header.now.chunk_size + tag_len_of header.now.version }
+        requires second { length rooms.1.items ≡ (cipher_of A.variant).nonce_len + header.now.chunk_size + tag_len_of header.now.version }
+        ensures key { result.key ≡ key.now }
+        ensures header { result.header ≡ header.now }
+        ensures tree { result.tree ≡ tree }
+        ensures unmarked { result.broken ≡ false }
+    {
+        let (first, second) = rooms;
+        OpenFile {
+            key: *key,
+            chunk_key: chunk_key::<A>(key, &header.id),
+            header: *header,
+            first,
+            second,
+            tree,
+            broken: false,
+        }
+    }
+}
+
+// Opens a file but for its tree, which has no leaves yet.
+fn open_bare<A: Algorithm, I: RafIo, R: RafRng, H: MerkleHasher>(
+    alloc: Global,
+    parts: &mut Parts<I, R, H>,
+    key: &A::Key,
+    max_chunks: u64,
+) -> Result<OpenFile<A>, Error>
+    ensures opened { IfOk result (λ f. OpenedBare (cipher_of A.variant) H.hashing (A.key_list key.now) (option_map (λ _. max_chunks) parts.old.setting) parts.old
+        (handle_of parts.new (A.key_list f.key) f.header f.tree f.broken)) }
+    ensures refused { IfErr result (λ e. NotOpened (cipher_of A.variant) H.hashing (A.key_list key.now) (option_map (λ _. max_chunks) parts.old.setting) parts.old parts.new (kind_of e)) }
+{
+    let found = find_header::<A, I, R, H>(parts)?;
+    let count = count_of(&found.header);
+    let tree = tree_for::<H>(alloc, &parts.hasher, max_chunks, count)?;
+    let rooms = rooms::<A>(alloc, &found.header)?;
     if !header_tag_fits::<A>(&found.bytes, key) {
         return Err(Error::AuthenticationFailed);
     }
-    let chunk_key = chunk_key::<A>(key, &header.id);
-    Ok(OpenFile {
-        key: *key,
-        chunk_key,
-        header,
-        first,
-        second,
-        tree: None,
-        broken: false,
-    })
+    Ok(OpenFile::<A>::of(key, &found.header, rooms, tree))
+}
+
+/// Makes the tree of a file anew from its chunks. Where a hash was asked and then something failed, the file is marked.
+pub fn grow_file<A: Algorithm, I: RafIo, R: RafRng, H: MerkleHasher>(
+    parts: &mut Parts<I, R, H>,
+    file: &mut OpenFile<A>,
+) -> Result<(), Error>
+    requires some { is_some file.old.tree ≡ true }
+    requires paired { Paired H.hashing parts.old.setting file.old.tree }
+    requires unmarked { file.old.broken ≡ false }
+    ensures grew { Grew (cipher_of A.variant) H.hashing (A.key_list file.old.chunk_key) file.old.header parts.old parts.new file.old.tree file.new.tree file.new.broken result }
+    ensures unmarked { OnOk result (file.new.broken ≡ false) }
+    ensures same { (file.new.key ≡ file.old.key) × (file.new.header ≡ file.old.header) }
+{
+    grow::<A, I, R, H>(
+        parts,
+        &file.chunk_key,
+        &file.header,
+        &mut file.first,
+        &mut file.tree,
+        &mut file.broken,
+    )?;
+    file.broken = false;
+    Ok(())
+}
+
+/// Opens a file, and makes its tree where there is a hasher. All the memory that it needs later is taken here.
+pub fn open_file<A: Algorithm, I: RafIo, R: RafRng, H: MerkleHasher>(
+    alloc: Global,
+    parts: &mut Parts<I, R, H>,
+    key: &A::Key,
+    max_chunks: u64,
+) -> Result<OpenFile<A>, Error>
+    ensures opened { IfOk result (λ f. Opened (cipher_of A.variant) H.hashing (A.key_list key.now) (option_map (λ _. max_chunks) parts.old.setting) parts.old
+        (handle_of parts.new (A.key_list f.key) f.header f.tree f.broken)) }
+    ensures paired { IfOk result (λ f. Paired H.hashing parts.new.setting f.tree) }
+    ensures refused { IfErr result (λ e. NotOpened (cipher_of A.variant) H.hashing (A.key_list key.now) (option_map (λ _. max_chunks) parts.old.setting) parts.old parts.new (kind_of e)) }
+{
+    let mut file = open_bare::<A, I, R, H>(alloc, parts, key, max_chunks)?;
+    if file.tree.is_none() {
+        return Ok(file);
+    }
+    grow_file::<A, I, R, H>(parts, &mut file)?;
+    Ok(file)
 }

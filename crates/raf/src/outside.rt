@@ -1,7 +1,7 @@
 //! The storage, the random source and the hasher of a file, seen together.
 ghost use Rattle.std.specs.Prelude.{◌≡◌, ◌+◌, ◌-◌, ◌^◌, ◌<◌, ◌≤◌, max, ⊤, List, ℕ, length, Some, None, true, IfOk, IfErr, OnOk, OnErr};
 ghost use Rattle.std.specs.Option.{option_map};
-ghost use Rattle.counts.specs.Counts.{Rose};
+ghost use Rattle.counts.specs.Counts.{raised, Rose};
 ghost use Rattle.raf_io.specs.Storage.{spliced, resized, Told, ReadsFrom, Torn, Cut, IsLengthOf, Strays, SyncedTo};
 ghost use Rattle.raf_io.specs.Source.{Takes, TakesAtMost, IsShort};
 ghost use Rattle.raf_tree.specs.Kept.{Kept, kept, tree_height};
@@ -158,7 +158,6 @@ impl<I: RafIo, R: RafRng, H: MerkleHasher> Parts<I, R, H> {
         requires paired { Paired H.hashing self.old.setting tree.old }
         requires index { (t : Kept) → tree.old ≡ Some t → index < t.max_chunks }
         requires chunk { length chunk.now ≤ 2 ^ 60 }
-        ensures put { (t : Kept) (s : List ℕ) → tree.new ≡ Some t → self.old.setting ≡ Some s → OnOk result (kept t 0 index ≡ (H.hashing s).leaf chunk.now index) }
         ensures leaf { OnOk result (OfTrees H.hashing self.old.setting tree.old tree.new (Leafed index chunk.now)) }
         ensures same { SameTree tree.old tree.new }
         ensures there { OnErr result (HasTree tree.new) }
@@ -169,6 +168,7 @@ impl<I: RafIo, R: RafRng, H: MerkleHasher> Parts<I, R, H> {
         ensures moved { Moved self.old self.new 0 0 0 0 1 }
         ensures began { OnErr result (Rose self.old.calls self.new.calls) }
         ensures none { tree.old ≡ None → self.new.calls ≡ self.old.calls }
+        ensures asked { (t : Kept) → tree.old ≡ Some t → self.new.calls ≡ raised self.old.calls 1 }
         ensures strays { self.new.strays ≡ self.old.strays }
     {
         if let Some(hasher) = &mut self.hasher {
@@ -200,6 +200,7 @@ impl<I: RafIo, R: RafRng, H: MerkleHasher> Parts<I, R, H> {
         ensures failed { IfErr result (λ e. (kind_of e ≡ ErrorKind.Hash) × Caused ErrorKind.Hash self.old self.new) }
         ensures quiet { OnOk result (Quiet self.old self.new) }
         ensures moved { Moved self.old self.new 0 0 0 0 (self.new.calls - self.old.calls) }
+        ensures began { OnErr result (Rose self.old.calls self.new.calls) }
         ensures calls { (t : Kept) → tree.old ≡ Some t → UpdateCalls count first end (tree_height t) self.old.calls self.new.calls result }
         ensures none { tree.old ≡ None → (self.new.calls ≡ self.old.calls) }
         ensures strays { self.new.strays ≡ self.old.strays }

@@ -4,6 +4,7 @@ ghost use Rattle.raf_format.specs.Cipher.{cipher_of};
 ghost use Rattle.raf.specs.Stepped.{Stepped, done_reply, write_reply, verify_reply};
 ghost use Rattle.raf.specs.Handle.{Handle, hash_len_of};
 ghost use Rattle.raf.specs.Session.{room_of, room_for, Meets};
+ghost use Rattle.raf.specs.Outside.{over_storage};
 ghost use Rattle.raf.specs.Ran.{Ended};
 
 use crate::builder::{OpenError, RafBuilder};
@@ -212,7 +213,7 @@ pub fn session<A: Algorithm, I: RafIo, R: RafRng, H: MerkleHasher>(
     commands: &[Command],
 ) -> SessionEnd<I, R, H>
     ensures meets { Meets (cipher_of A.variant) H.hashing (A.key_list key.now) builder commands.now
-        (record builder.outside { bytes = I.bytes io; durable = I.durable io; io_faults = I.faults io; reach = I.reach io; traffic = I.traffic io; changes = I.changes io; strays = I.strays io })
+        (over_storage (I.bytes io) (I.durable io) (I.faults io) (I.reach io) (I.traffic io) (I.changes io) (I.strays io) builder.outside)
         result.outside result.outcome }
 {
     match builder.open::<I>(alloc, io, key) {
