@@ -93,12 +93,16 @@ module _ (C : Cipher) (E : List ℕ → Hashing) (K : List ℕ) (h : Header) (p 
         carried = tt;
         missing = λ b told auth. (cause AuthenticationFailed auth).2 b told;
         failed = unready_first (kind_of e) old new pr.failed;
-        reads = λ io kept. (cause Io io).1;
+        reads = pr.reads;
         asks = λ rng. pr.some;
         short = λ rng exact. short_then old.left old.left [] C.nonce_len ((p.end - p.first) * C.nonce_len) (takes_none old.left) (omega (arith, one)) ((cause Rng rng).2 exact);
         hashes = λ hash. absurd (cause Hash hash);
-        there = λ b told which misses. elim which [ inl rng ↦ (cause Rng rng).3 b told misses | inr hash ↦ absurd (cause Hash hash) ];
-        untaken = λ auth. ((cause AuthenticationFailed auth).1, unmarked);
+        there = λ b told which misses. elim which [
+          | inl rng ↦ (cause Rng rng).3 b told misses
+          | inr other ↦ elim other [ inl hash ↦ absurd (cause Hash hash) | inr marked ↦ absurd (false≢true (sym unmarked ∙ marked)) ]
+        ];
+        unbegun = λ auth. unmarked;
+        early = λ which. pr.early (elim which [ inl auth ↦ inl auth | inr io ↦ inr io.0 ]);
         quiet = tt;
         left = takes_most old.left new.left C.nonce_len ((p.end - p.first) * C.nonce_len) (omega (arith, one)) pr.left;
         spared = λ b told l. spared_same s p (length bytes) planned b new.bytes (pr.bytes ∙ told);
@@ -193,7 +197,8 @@ module _ (C : Cipher) (E : List ℕ → Hashing) (K : List ℕ) (h : Header) (p 
           short = tt;
           hashes = tt;
           there = λ b told. tt;
-          untaken = tt;
+          unbegun = tt;
+          early = tt;
           quiet = quiet_then old mid new pr.quiet cm.quiet;
           left = tt;
           spared = λ b told l. cm.spared b (pr.bytes ∙ told) l;
@@ -214,14 +219,15 @@ module _ (C : Cipher) (E : List ℕ → Hashing) (K : List ℕ) (h : Header) (p 
       carried = tt;
       missing = λ b told auth. absurd (cause AuthenticationFailed auth);
       failed = unready_later ((p.end - 1 - p.first) * C.nonce_len) (kind_of e) old mid new tree' pr.quiet cm.failed;
-      reads = λ io kept. absurd (false≢true (sym kept));
+      reads = λ auth. absurd (cause AuthenticationFailed auth);
       asks = cm.asks;
       short = λ rng exact.
           short_then old.left mid.left nonce ((p.end - 1 - p.first) * C.nonce_len) ((p.end - p.first) * C.nonce_len) (pr.taken (cm.asks rng)) (omega (arith, nonce_most, nonces_one (cm.asks rng)))
           ((cause Rng rng).1 (pr.moved.exact ∙ exact));
       hashes = λ hash. (cause Hash hash).1;
       there = λ b told which. none_misses C K h p (length bytes) planned size b kept (pr.right b told);
-      untaken = λ auth. absurd (cause AuthenticationFailed auth);
+      unbegun = λ auth. absurd (cause AuthenticationFailed auth);
+      early = λ which. elim which [ inl auth ↦ absurd (cause AuthenticationFailed auth) | inr io ↦ absurd (false≢true (sym io.1)) ];
       quiet = tt;
       left = taken_some;
       spared = λ b told l. cm.spared b (pr.bytes ∙ told) l;

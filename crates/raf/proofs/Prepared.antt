@@ -62,6 +62,22 @@ module _ (s : Shape) (p : Plan) (len : ℕ) where
   abbrev pub first_needed : ℕ
   first_needed = if nat_lt (p.first + 1) p.end then needed_record s p len p.first else 0
 
+  -- where bytes of a record are asked something of its chunk is kept
+  pub kept_by : (index : ℕ) → 1 ≤ needed_record s p len index → 0 < kept_len s.chunk_size p len index
+  kept_by index some = elim (cases_lt 0 (kept_len s.chunk_size p len index)) [
+    | inl kept ↦ kept
+    | inr none ↦
+        let t : nat_lt 0 (kept_len s.chunk_size p len index) ≡ false = grind (arith, nat_tests) in
+        absurd (omega (arith, some, ap (λ (t : Bool). cond {A = ℕ} t (record_len s p.before index) 0) t))
+  ]
+
+  pub kept_first : 1 ≤ first_needed → 0 < kept_len s.chunk_size p len p.first
+  kept_first some = kept_by p.first (go (nat_lt (p.first + 1) p.end) some)
+    where
+      go : (t : Bool) → 1 ≤ cond {A = ℕ} t (needed_record s p len p.first) 0 → 1 ≤ needed_record s p len p.first
+      go true some = some
+      go false some = absurd (omega (arith, some))
+
   pub needed_all : p.first < p.end → needed_records s p len ≡ first_needed + needed_record s p len (p.end - 1)
   needed_all some =
       let t : nat_lt p.first p.end ≡ true = grind (arith, nat_tests) in
@@ -208,6 +224,9 @@ module _ (C : Cipher) (K : List ℕ) (h : Header) (p : Plan) (len : ℕ) (planne
           failed = unprepared (kind_of e) old mid l.kinds (omega (arith, asked, l.needed)) l.kept.left
               (λ auth b told. let m = l.missing b told auth in (p.first, omega arith, some, first_wanted_is m.0, m.1));
           some = some;
+          reads = λ auth. (p.first, omega arith, some, kept_first s p len l.needed);
+          early = λ which. (l.kept.left, moved_less old mid _ _ _ _ _ (layout_len s p.before) (needed_records s p len) 0 0 0 l.moved
+              (omega arith) (omega (arith, asked)) (omega arith) (omega arith) (omega arith));
           left = takes_nothing old.left mid.left C.nonce_len l.kept.left;
           bytes = l.kept.bytes;
           durable = l.kept.durable;
@@ -231,6 +250,10 @@ module _ (C : Cipher) (K : List ℕ) (h : Header) (p : Plan) (len : ℕ) (planne
             failed = unprepared (kind_of e) old new (unopened_later (kind_of e) old mid new l.quiet m.kinds) (omega (arith, asked, m.needed)) k.left
                 (λ auth b told. let n = m.missing b (l.kept.bytes ∙ told) auth in (p.end - 1, omega (arith, some), omega (arith, some), n.0, n.1));
             some = some;
+            reads = λ auth. (p.end - 1, omega (arith, some), omega (arith, some), kept_by s p len (p.end - 1) m.needed);
+            early = λ which. (k.left, moved_less old new _ _ _ _ _ (layout_len s p.before) (needed_records s p len) 0 0 0
+                (moved_then old mid new _ _ _ _ _ _ _ _ _ _ l.moved m.moved)
+                (omega arith) (omega (arith, asked)) (omega arith) (omega arith) (omega arith));
             left = takes_nothing old.left new.left C.nonce_len k.left;
             bytes = k.bytes;
             durable = k.durable;
@@ -261,6 +284,8 @@ module _ (C : Cipher) (K : List ℕ) (h : Header) (p : Plan) (len : ℕ) (planne
                   (λ b told. none_misses b (kept_in C h p len front' back') (right b told)),
                 )) d.failed d.short;
             some = on_err_any r _ some;
+            reads = if_err r _ _ (λ e (why : (kind_of e ≡ Rng) × Caused Rng new drawn) auth. absurd (not_missing (kind_of e) why.0 auth)) d.failed;
+            early = if_err r _ _ (λ e (why : (kind_of e ≡ Rng) × Caused Rng new drawn) which. absurd (elim which [ inl auth ↦ not_missing (kind_of e) why.0 auth | inr io ↦ not_io (kind_of e) why.0 io ])) d.failed;
             left = subst (λ (o : Option (List ℕ)). OnErr r (TakesAtMost o C.nonce_len drawn.left)) k.left d.left;
             bytes = d.bytes ∙ k.bytes;
             durable = d.durable ∙ k.durable;
@@ -271,5 +296,11 @@ module _ (C : Cipher) (K : List ℕ) (h : Header) (p : Plan) (len : ℕ) (planne
             strays = λ b told long. d.strays ∙ m.strays b (l.kept.bytes ∙ told) long ∙ l.strays b told long;
           }
         where
+          not_missing : (kind : ErrorKind) → kind ≡ Rng → kind ≡ AuthenticationFailed → ⊥
+          not_missing kind rng auth = cc
+
+          not_io : (kind : ErrorKind) → kind ≡ Rng → kind ≡ Io → ⊥
+          not_io kind rng io = cc
+
           right : (b : List ℕ) → old.bytes ≡ Some b → KeptOf C K h p len b (kept_in C h p len front' back')
           right b told = kept_right b front back front' back' some d.front_rest d.back_rest (l.stands b told) (m.stands b (l.kept.bytes ∙ told))

@@ -1,5 +1,5 @@
 -- How a change goes on, call by call (this project's own).
-use Rattle.std.specs.Prelude.{◌≡◌, ℕ, ◌+◌, ◌-◌, ◌*◌, ◌<◌, ◌≤◌, max, if◌then◌else◌, nat_lt, nat_eq, Bool, true, List, length, take, drop, Option, Some, None, Result, OnOk, OnErr, IfErr, ⊤}
+use Rattle.std.specs.Prelude.{◌≡◌, ℕ, ◌+◌, ◌-◌, ◌*◌, ◌<◌, ◌≤◌, ◌⊎◌, max, if◌then◌else◌, nat_lt, nat_eq, Bool, true, List, length, take, drop, Option, Some, None, Result, OnOk, OnErr, IfErr, ⊤}
 use Rattle.counts.specs.Counts.{Rose}
 use Rattle.raf_io.specs.Storage.{Torn, spliced}
 use Rattle.raf_io.specs.Source.{Takes, TakesAtMost, IsShort}
@@ -110,6 +110,9 @@ pub record Prepares (C : Cipher) (K : List ℕ) (h : Header) (p : Plan) (len : �
   pub untaken : p.end ≤ p.first → new.left ≡ old.left
   pub failed : IfErr result (λ e. Unprepared C K h p len (kind_of e) old new)
   pub some : OnErr result (p.first < p.end)
+  pub reads : IfErr result (λ e. kind_of e ≡ AuthenticationFailed → (i : ℕ) × (p.first ≤ i) × (i < p.end) × (0 < kept_len h.chunk_size p len i))
+  pub early : IfErr result (λ e. (kind_of e ≡ AuthenticationFailed) ⊎ (kind_of e ≡ Io)
+      → (new.left ≡ old.left) × Moved old new (layout_len (shape_of C h) p.before) (needed_records (shape_of C h) p len) 0 0 0)
   pub left : OnErr result (TakesAtMost old.left C.nonce_len new.left)
   pub bytes : new.bytes ≡ old.bytes
   pub durable : new.durable ≡ old.durable
