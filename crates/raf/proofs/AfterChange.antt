@@ -1,14 +1,14 @@
 -- The storage after a change: its records, its header and its length.
-use Rattle.std.proofs.Common.{◌≡◌, ◌≢◌, inl, inr, ℕ, zero, suc, ◌+◌, ◌-◌, ◌*◌, ◌<◌, ◌≤◌, min, max, Bool, true, false, cond, ◌&&◌, ◌⊎◌, List, [], ◌∷◌, ◌++◌, length, take, drop, get_or, Option, Some, None, refl, sym, ◌∙◌, ap, subst, arith, length-append, length-take, length-drop}
+use Rattle.std.proofs.Common.{◌≡◌, inl, inr, ℕ, suc, ◌+◌, ◌-◌, ◌*◌, ◌<◌, ◌≤◌, max, Bool, true, false, cond, ◌&&◌, ◌⊎◌, List, [], length, take, drop, get_or, Option, Some, None, sym, ◌∙◌, ap, subst, arith, length-append, length-take, length-drop}
 use Rattle.std.specs.Prelude.{nat_lt, nat_le, nat_eq, unwrap_or}
 use Rattle.std.proofs.lemmas.List.{take-take, drop-take}
 use Rattle.std.proofs.lemmas.Bool.{cases_lt, cases_eq}
 use Rattle.std.proofs.lemmas.Bool.Decides.{nat_tests}
 use Rattle.std.proofs.lemmas.Nat.{mul-le}
-use Rattle.raf_io.specs.Storage.{resized, spliced, Torn, Cut}
+use Rattle.raf_io.specs.Storage.{resized, spliced, Torn}
 use Rattle.raf_format.specs.Cipher.{Cipher, IsLawful}
 use Rattle.raf_format.specs.Header.{sealed_header}
-use Rattle.raf_format.specs.File.{Shape, File, tag_len, sealed, beside, record_at, record_len, record_start, chunk_count, chunk_len, layout_len}
+use Rattle.raf_format.specs.File.{Shape, File, tag_len, sealed, beside, record_at, record_len, chunk_count, chunk_len, layout_len}
 use Rattle.raf.specs.Image.{header_of, image}
 use Rattle.raf.specs.Put.{stride, placed, nonce_at, finished}
 use Rattle.raf_io.proofs.Splices.{resized_cut, length-resized}
@@ -16,7 +16,7 @@ use Rattle.raf_format.proofs.SealedHeaders.{length_header}
 use Rattle.raf_format.proofs.Versions.{is_tag_len}
 use Rattle.raf.proofs.Placed.{length-spliced, torn_part, spliced_there, torn_before, torn_behind, placed_torn, length-placed, placed_there}
 use Rattle.raf.specs.Plan.{Spans}
-use Rattle.raf.proofs.Spans.{kept_front, kept_back, record_inside, layout_ends, layout_more, count_covers}
+use Rattle.raf.proofs.Spans.{kept_front, record_inside, layout_ends, layout_more, count_covers}
 use Rattle.raf.proofs.Imaged.{piece, imaged}
 
 -- records outside the range of a change stay

@@ -1,14 +1,14 @@
 -- A write and a truncation, each as a change.
-use Rattle.std.proofs.Common.{◌≡◌, ◌≢◌, inl, inr, ℕ, ◌+◌, ◌^◌, ◌<◌, ◌≤◌, Bool, true, false, cond, List, [], ◌∷◌, length, Option, Some, None, Result, Ok, Err, refl, sym, ◌∙◌, ap, subst, arith}
+use Rattle.std.proofs.Common.{◌≡◌, ◌≢◌, inl, inr, ℕ, ◌^◌, ◌<◌, ◌≤◌, Bool, true, false, cond, List, [], ◌∷◌, length, Option, Some, None, Result, Ok, Err, refl, sym, ◌∙◌, ap, subst, arith}
 use Rattle.std.specs.Prelude.{nat_eq}
 use Rattle.std.proofs.lemmas.Bool.{cases_lt, false≢true}
 use Rattle.std.proofs.lemmas.Bool.Decides.{nat_tests}
 use Rattle.raf_tree.specs.Hashing.{Hashing}
 use Rattle.raf_tree.specs.Laws.{TreeLaws}
 use Rattle.raf_format.specs.Cipher.{Cipher, IsLawful}
-use Rattle.raf_format.specs.File.{File, shape_of, chunk_count, layout_len}
+use Rattle.raf_format.specs.File.{shape_of, chunk_count, layout_len}
 use Rattle.raf.specs.Concern.{can_have}
-use Rattle.raf.specs.Change.{Change, change_of, write_change, truncate_change}
+use Rattle.raf.specs.Change.{Change, write_change, truncate_change}
 use Rattle.raf.specs.Handle.{Handle, HasRoom, limit_of, outline}
 use Rattle.raf.specs.Plan.{Planned, plan_of}
 use Rattle.raf.specs.declared.planning.Plan.{Plan}
@@ -18,7 +18,7 @@ use Rattle.raf.specs.declared.command.Command.TheVariants.{Write, Truncate}
 use Rattle.raf.specs.declared.command.Reply.TheVariants as reply
 use Rattle.raf_io.specs.declared.errors.Error.{Error}
 use Rattle.raf_format.specs.declared.header.Header.{Header}
-use Rattle.raf.proofs.Arms.{Alters, with_chunks}
+use Rattle.raf.proofs.Arms.{Alters}
 use Rattle.raf.proofs.Ranges.{write_ranged, truncate_ranged}
 use Rattle.raf.proofs.ReadyChanges.{Ready, can_fit}
 use Rattle.raf.proofs.Plans.{planned}

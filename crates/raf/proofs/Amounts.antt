@@ -1,18 +1,18 @@
 -- What a change asks, by its plan.
-use Rattle.std.proofs.Common.{◌≡◌, ◌≢◌, inl, inr, ℕ, zero, suc, ◌+◌, ◌-◌, ◌*◌, ◌/◌, ◌<◌, ◌≤◌, min, max, Bool, true, false, cond, List, length, Option, Some, None, refl, sym, ◌∙◌, ap, arith}
+use Rattle.std.proofs.Common.{◌≡◌, inl, inr, ℕ, ◌+◌, ◌-◌, ◌*◌, ◌≤◌, min, Bool, true, false, cond, List, length, Option, Some, None, refl, sym, ◌∙◌, ap, arith}
 use Rattle.std.specs.Prelude.{nat_lt, nat_eq, if◌then◌else◌}
 use Rattle.std.proofs.lemmas.Bool.{cases_lt, cases_eq}
 use Rattle.std.proofs.lemmas.Bool.Decides.{nat_tests}
 use Rattle.raf_tree.specs.Tree.{height}
-use Rattle.raf_format.specs.Cipher.{Cipher, IsLawful}
+use Rattle.raf_format.specs.Cipher.{Cipher}
 use Rattle.raf_format.specs.File.{File, Shape, shape_of, chunk_count, record_len}
 use Rattle.raf.specs.Due.{is_refused}
-use Rattle.raf.specs.Concern.{is_touched, is_needed, touched, needed, size_after, sum_where}
+use Rattle.raf.specs.Concern.{is_touched, touched, needed, size_after, sum_where}
 use Rattle.raf.specs.Apply.{apply}
-use Rattle.raf.specs.Change.{Change, change_of}
+use Rattle.raf.specs.Change.{Change}
 use Rattle.raf.specs.Image.{asked_by, changes_by, traffic_by, tree_traffic, moved_chunks, calls_by}
-use Rattle.raf.specs.Meaning.{other_calls, Concerned}
-use Rattle.raf.specs.Plan.{Ranged, plan_of, kept_len}
+use Rattle.raf.specs.Meaning.{Concerned}
+use Rattle.raf.specs.Plan.{Ranged, plan_of}
 use Rattle.raf.specs.Put.{needed_records, new_records, changes_of}
 use Rattle.raf.specs.declared.planning.Plan.{Plan}
 use Rattle.raf.specs.declared.command.Command.{Command}
@@ -20,7 +20,6 @@ use Rattle.raf.specs.declared.command.Command.TheVariants as command
 use Rattle.raf.specs.declared.command.Reply.{Reply}
 use Rattle.raf_format.specs.declared.header.Header.{Header}
 use Rattle.raf.proofs.StillSteps.{may_change}
-use Rattle.raf.proofs.Needed.{sum_within}
 use Rattle.raf.proofs.Arms.{Alters, with_chunks, needed_is}
 use Rattle.raf.proofs.Plans.{spans, until_parts, some_moved}
 use Rattle.raf.proofs.Totals.{touched_each, touched_records, needed_total}

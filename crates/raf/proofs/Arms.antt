@@ -1,13 +1,13 @@
 -- What is due to a change: it is refused by its numbers or for a missing chunk, or carried out.
-use Rattle.std.proofs.Common.{◌≡◌, ◌≢◌, inl, inr, ℕ, zero, suc, ◌+◌, ◌-◌, ◌*◌, ◌/◌, ◌<◌, ◌≤◌, min, Bool, true, false, cond, not, ◌&&◌, ◌||◌, List, [], ◌∷◌, length, take, drop, get_or, Option, Some, None, refl, sym, ◌∙◌, ap, subst, arith}
+use Rattle.std.proofs.Common.{◌≡◌, inl, inr, ℕ, zero, suc, ◌+◌, ◌-◌, ◌*◌, ◌/◌, ◌<◌, ◌≤◌, min, Bool, true, false, cond, not, ◌&&◌, ◌||◌, List, [], ◌∷◌, length, get_or, Option, Some, None, refl, sym, ◌∙◌, ap, arith}
 use Rattle.std.specs.Prelude.{nat_lt, nat_le, is_some}
-use Rattle.std.proofs.lemmas.Bool.{cases_lt, cases_eq, cases_Bool, ltb-true, lt-ltb}
+use Rattle.std.proofs.lemmas.Bool.{cases_Bool, ltb-true, lt-ltb}
 use Rattle.std.proofs.lemmas.Bool.Decides.{nat_tests}
-use Rattle.raf_format.specs.Cipher.{Cipher, IsLawful}
-use Rattle.raf_format.specs.File.{File, Shape, IsFile, shape_of, chunk_count, chunk_at, chunks_from, file_of}
+use Rattle.raf_format.specs.Cipher.{Cipher}
+use Rattle.raf_format.specs.File.{File, Shape, IsFile, shape_of, chunk_count, chunk_at, file_of}
 use Rattle.raf.specs.Due.{Due}
 use Rattle.raf.specs.Due.Due.{Exactly}
-use Rattle.raf.specs.Concern.{none_missing, is_merkle, is_touched, is_needed, needed, fits, can_have, meets}
+use Rattle.raf.specs.Concern.{none_missing, is_merkle, is_touched, is_needed, needed, fits, can_have}
 use Rattle.raf.specs.Apply.{apply, answer, changed, after}
 use Rattle.raf.specs.Change.{Change, change_of}
 use Rattle.raf.specs.Plan.{Ranged, plan_of, kept_len}

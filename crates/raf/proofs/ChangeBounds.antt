@@ -1,33 +1,30 @@
 -- A change asks no more than its command may.
-use Rattle.std.proofs.Common.{◌≡◌, ◌≢◌, inl, inr, ℕ, ◌+◌, ◌-◌, ◌*◌, ◌/◌, ◌^◌, ◌<◌, ◌≤◌, min, max, Bool, true, false, cond, ◌&&◌, List, [], length, Option, Some, None, refl, sym, ◌∙◌, ap, subst, arith}
-use Rattle.std.specs.Prelude.{◌⊎◌}
+use Rattle.std.proofs.Common.{◌≡◌, inl, inr, ℕ, ◌+◌, ◌-◌, ◌*◌, ◌≤◌, min, max, true, false, List, length, Option, Some, None, refl, ◌∙◌, ap, subst, arith}
 use Rattle.std.specs.Option.{option_map}
-use Rattle.std.proofs.lemmas.Bool.{cases_lt, false≢true}
+use Rattle.std.proofs.lemmas.Bool.{cases_lt}
 use Rattle.std.proofs.lemmas.Nat.{mul-le}
-use Rattle.raf_tree.specs.Kept.{Kept, tree_height}
+use Rattle.raf_tree.specs.Kept.{Kept}
 use Rattle.raf_tree.specs.Tree.{height}
-use Rattle.raf_format.specs.Cipher.{Cipher, IsLawful}
-use Rattle.raf_format.specs.File.{File, Shape, shape_of, chunk_count, layout_len, file_layout}
-use Rattle.raf.specs.Due.{Due, is_refused, is_barred}
+use Rattle.raf_format.specs.Cipher.{Cipher}
+use Rattle.raf_format.specs.File.{File, Shape, shape_of, layout_len, file_layout}
+use Rattle.raf.specs.Due.{Due, is_refused}
 use Rattle.raf.specs.Due.Due.{Exactly}
 use Rattle.raf.specs.Concern.{can_have, is_needed, none_missing}
-use Rattle.raf.specs.Apply.{apply, after}
+use Rattle.raf.specs.Apply.{apply}
 use Rattle.raf.specs.Change.{Change}
-use Rattle.raf.specs.Image.{asked_by, changes_by, traffic_by, calls_by}
+use Rattle.raf.specs.Image.{calls_by}
 use Rattle.raf.specs.Outside.{Outside, Moved}
 use Rattle.raf.specs.Plan.{Ranged, plan_of}
-use Rattle.raf.specs.Put.{ChangeMoved, Hashed, needed_records, new_records, changes_of}
+use Rattle.raf.specs.Put.{ChangeMoved, Hashed, needed_records}
 use Rattle.raf.specs.Stepped.{Bounded}
 use Rattle.raf.specs.declared.planning.Plan.{Plan}
 use Rattle.raf.specs.declared.command.Command.{Command}
 use Rattle.raf.specs.declared.command.Reply.{Reply}
-use Rattle.raf_io.specs.declared.errors.ErrorKind.TheVariants.{AuthenticationFailed}
-use Rattle.raf.specs.declared.command.Reply.TheVariants.{Refused}
 use Rattle.raf_format.specs.declared.header.Header.{Header}
 use Rattle.raf.proofs.Moves.{moved_less}
 use Rattle.raf.proofs.Arms.{Alters, with_chunks, arm_done, arm_missing}
 use Rattle.raf.proofs.Plans.{spans, some_moved, end_until}
-use Rattle.raf.proofs.Amounts.{asked_is, asked_none, changes_is, traffic_is, calls_is}
+use Rattle.raf.proofs.Amounts.{asked_is, changes_is, traffic_is, calls_is}
 
 -- the most chunks that a tree has room for
 abbrev pub limit_by : Option Kept → Option ℕ

@@ -1,28 +1,26 @@
 -- A change that was carried out, as its command's step.
-use Rattle.std.proofs.Common.{◌≡◌, ◌≢◌, inl, inr, ℕ, ◌+◌, ◌-◌, ◌*◌, ◌/◌, ◌<◌, ◌≤◌, Bool, true, false, cond, List, [], length, Option, Some, None, refl, sym, ◌∙◌, ap, subst, arith}
-use Rattle.std.specs.Prelude.{◌⊎◌, if◌then◌else◌, is_some}
+use Rattle.std.proofs.Common.{◌≡◌, ◌≢◌, inl, inr, ℕ, ◌-◌, Bool, true, false, cond, List, [], length, Option, Some, None, refl, sym, ◌∙◌, ap, subst}
+use Rattle.std.specs.Prelude.{if◌then◌else◌, is_some}
 use Rattle.std.proofs.lemmas.Bool.{false≢true}
 use Rattle.raf_tree.specs.Hashing.{Hashing}
 use Rattle.raf_tree.specs.Kept.{Kept}
 use Rattle.raf_tree.specs.Laws.{TreeLaws}
 use Rattle.raf_format.specs.Cipher.{Cipher, IsLawful}
-use Rattle.raf_format.specs.File.{File, Shape, IsFile, shape_of, chunk_count, layout_len, chunks_from, file_of}
+use Rattle.raf_format.specs.File.{File, Shape, IsFile, shape_of, chunk_count, chunks_from, file_of}
 use Rattle.raf.specs.Due.{Due, Answers, is_refused}
 use Rattle.raf.specs.Due.Due.{Exactly}
 use Rattle.raf.specs.Concern.{is_touched, is_needed, touched, none_missing, size_after}
 use Rattle.raf.specs.Apply.{apply, after}
 use Rattle.raf.specs.Change.{Change, change_of}
 use Rattle.raf.specs.Image.{image, bytes_after}
-use Rattle.raf.specs.Outside.{Outside, Quiet}
-use Rattle.raf.specs.Handle.{Handle, Holds, Measures, WithTree, OfTree, Grown, KeptAnswer, limit_of, outline}
+use Rattle.raf.specs.Outside.{Quiet}
+use Rattle.raf.specs.Handle.{Handle, Holds, WithTree, OfTree, Grown, KeptAnswer, limit_of, outline}
 use Rattle.raf.specs.Plan.{plan_of}
 use Rattle.raf.specs.Put.{Carried, ChangeMoved, Hashed}
-use Rattle.raf.specs.Stepped.{Answered, Bounded, HasForm, Went, with_size, refuses, may_mark}
+use Rattle.raf.specs.Stepped.{Answered, Bounded, HasForm, Went, with_size, refuses}
 use Rattle.raf.specs.declared.planning.Plan.{Plan}
 use Rattle.raf.specs.declared.command.Command.{Command}
-use Rattle.raf.specs.declared.command.Command.TheVariants as command
 use Rattle.raf.specs.declared.command.Reply.{Reply}
-use Rattle.raf.specs.declared.command.Reply.TheVariants.{Done}
 use Rattle.raf_format.specs.declared.header.Header.{Header}
 use Rattle.raf.proofs.StillSteps.{may_change}
 use Rattle.raf.proofs.Arms.{with_chunks, arm_done, kept_there}

@@ -1,31 +1,29 @@
 -- A change that was not carried out, as its command's step.
-use Rattle.std.proofs.Common.{◌≡◌, ◌≢◌, inl, inr, ℕ, ◌+◌, ◌-◌, ◌*◌, ◌/◌, ◌<◌, ◌≤◌, min, Bool, true, false, cond, ◌&&◌, List, [], length, take, Option, Some, None, Err, refl, sym, ◌∙◌, ap, subst, arith}
-use Rattle.std.specs.Prelude.{◌⊎◌, if◌then◌else◌, is_some, nat_lt, nat_le}
+use Rattle.std.proofs.Common.{◌≡◌, ◌≢◌, inl, inr, ℕ, ◌+◌, ◌-◌, ◌*◌, ◌<◌, ◌≤◌, min, Bool, true, false, cond, ◌&&◌, List, [], length, Option, Some, Err, refl, sym, ◌∙◌, ap, subst, arith}
+use Rattle.std.specs.Prelude.{◌⊎◌, is_some, nat_lt, nat_le}
 use Rattle.std.proofs.lemmas.Bool.{cases_lt, cases_Bool, false≢true, lt-ltb}
 use Rattle.std.proofs.lemmas.Bool.Decides.{nat_tests}
 use Rattle.std.proofs.lemmas.Nat.{mul-le}
 use Rattle.raf_io.specs.Source.{Takes, TakesAtMost, IsShort}
 use Rattle.raf_io.specs.Kinds.{kind_of}
 use Rattle.raf_tree.specs.Hashing.{Hashing}
-use Rattle.raf_tree.specs.Kept.{Kept}
 use Rattle.raf_tree.specs.Tree.{height}
 use Rattle.raf_format.specs.Cipher.{Cipher, IsLawful}
-use Rattle.raf_format.specs.File.{File, Shape, IsFile, shape_of, chunk_count, chunks_from, file_of, record_at}
+use Rattle.raf_format.specs.File.{File, Shape, IsFile, shape_of, chunk_count, chunks_from, file_of}
 use Rattle.raf.specs.Due.{Due, Answers, is_fault, is_refused, is_barred}
 use Rattle.raf.specs.Due.Due.{Exactly}
-use Rattle.raf.specs.Concern.{is_touched, is_needed, needed, touched, fits, none_missing, size_after, sum_where}
-use Rattle.raf.specs.Apply.{apply, after}
+use Rattle.raf.specs.Concern.{is_touched, is_needed, needed, touched, none_missing, sum_where}
+use Rattle.raf.specs.Apply.{apply}
 use Rattle.raf.specs.Change.{Change, change_of}
 use Rattle.raf.specs.Image.{image, bytes_after, asked_by, calls_by}
 use Rattle.raf.specs.Meaning.{Faultable, Spares}
-use Rattle.raf.specs.Outside.{Outside, Quiet, Caused, MayHaveBegun}
+use Rattle.raf.specs.Outside.{Outside, Caused}
 use Rattle.raf.specs.Handle.{Handle, Holds, Measures, WithTree, OfTree, Grown, KeptAnswer, limit_of, outline}
-use Rattle.raf.specs.Plan.{plan_of, kept_len}
+use Rattle.raf.specs.Plan.{plan_of}
 use Rattle.raf.specs.Put.{Changing, Misses, Unready}
-use Rattle.raf.specs.Stepped.{Answered, Cut, Failed, Bounded, HasForm, Needs, Shaped, Went, refuses}
+use Rattle.raf.specs.Stepped.{Answered, Cut, Bounded, Needs, Went, refuses}
 use Rattle.raf.specs.declared.planning.Plan.{Plan}
 use Rattle.raf.specs.declared.command.Command.{Command}
-use Rattle.raf.specs.declared.command.Command.TheVariants as command
 use Rattle.raf.specs.declared.command.Reply.{Reply}
 use Rattle.raf.specs.declared.command.Reply.TheVariants as reply
 use Rattle.raf_io.specs.declared.errors.Error.{Error}
@@ -213,12 +211,15 @@ module _ (C : Cipher) (lawful : IsLawful C) (E : List ℕ → Hashing) (old new 
 
     spares : (now : List ℕ) × (new.outside.bytes ≡ Some now) × Spares F c b now
     spares =
-        let sp = changing.spared b tells is_file.length_fits in
-        (sp.0, sp.1, record {
-          untouched = λ none. absurd (false≢true (sym none ∙ ap is_some (ready.alters.change (opened b))));
-          header = λ same. sp.2 (sym (size_is C h c K done ready.alters ready.least ready.ranged (limit_of old) (opened b)) ∙ same);
-          records = λ index had has off. sp.3 index had (omega (arith, has, ap (chunk_count h.chunk_size) (size_is C h c K done ready.alters ready.least ready.ranged (limit_of old) (opened b)))) (beside index off);
-        })
+        let sp = changing.spared b tells is_file.length_fits in (
+          sp.0,
+          sp.1,
+          record {
+            untouched = λ none. absurd (false≢true (sym none ∙ ap is_some (ready.alters.change (opened b))));
+            header = λ same. sp.2 (sym (size_is C h c K done ready.alters ready.least ready.ranged (limit_of old) (opened b)) ∙ same);
+            records = λ index had has off. sp.3 index had (omega (arith, has, ap (chunk_count h.chunk_size) (size_is C h c K done ready.alters ready.least ready.ranged (limit_of old) (opened b)))) (beside index off);
+          },
+        )
       where
         beside : (index : ℕ) → touched F c index ≡ false → (index < p.first) ⊎ (p.end ≤ index)
         beside index off =
@@ -323,10 +324,14 @@ module _ (C : Cipher) (lawful : IsLawful C) (E : List ℕ → Hashing) (old new 
         | inl stopped ↦ stopped.0
         | inr not ↦ absurd (elim began [ inl more ↦ omega (arith, more, not.1) | inr more ↦ omega (arith, more, not.2) ])
       ];
-      cause = λ set. (marks c ready.alters.kind, refl, elim changing.stopped [
-        | inl stopped ↦ stopped.1
-        | inr not ↦ absurd (false≢true (sym not.0 ∙ set))
-      ]);
+      cause = λ set. (
+        marks c ready.alters.kind,
+        refl,
+        elim changing.stopped [
+          | inl stopped ↦ stopped.1
+          | inr not ↦ absurd (false≢true (sym not.0 ∙ set))
+        ],
+      );
     };
     stays = record {
       key = changing.key;

@@ -1,8 +1,8 @@
 -- What is kept of an old chunk is enough: the data covers the rest of it.
-use Rattle.std.proofs.Common.{◌≡◌, ◌≢◌, inl, inr, ℕ, suc, ◌+◌, ◌-◌, ◌*◌, ◌<◌, ◌≤◌, min, max, Bool, true, false, ◌&&◌, not, cond, List, [], ◌∷◌, ◌++◌, length, take, drop, replicate, get_or, Option, Some, None, refl, sym, ◌∙◌, ap, arith, length-take}
+use Rattle.std.proofs.Common.{◌≡◌, inl, inr, ℕ, suc, ◌+◌, ◌-◌, ◌*◌, ◌<◌, ◌≤◌, min, Bool, true, false, ◌&&◌, not, cond, List, [], ◌∷◌, length, take, replicate, get_or, refl, sym, ◌∙◌, ap, arith, length-take}
 use Rattle.std.specs.Prelude.{nat_lt, nat_le, slice_index, ◌⊎◌}
-use Rattle.std.proofs.lemmas.List.{take_all, take-take, append-nil, nil_from_length, get_or-append_right, get_or-replicate}
-use Rattle.std.proofs.lemmas.Bool.{cases_lt, cases_eq}
+use Rattle.std.proofs.lemmas.List.{take_all, take-take, nil_from_length, get_or-append_right, get_or-replicate}
+use Rattle.std.proofs.lemmas.Bool.{cases_lt}
 use Rattle.std.proofs.lemmas.Bool.Decides.{nat_tests}
 use Rattle.raf_io.specs.Storage.{resized}
 use Rattle.raf_format.specs.File.{chunk_len}

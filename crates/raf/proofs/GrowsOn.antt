@@ -1,12 +1,11 @@
 -- The tree that was kept for a file keeps the new one after a change.
-use Rattle.std.proofs.Common.{◌≡◌, inl, inr, ℕ, zero, suc, ◌+◌, ◌-◌, ◌*◌, ◌/◌, ◌<◌, ◌≤◌, Bool, true, false, cond, ◌&&◌, List, [], ◌∷◌, length, map, get_or, Option, Some, None, refl, sym, ◌∙◌, ap, subst, arith}
-use Rattle.std.specs.Prelude.{◌⊎◌, ◌↔◌, unwrap_or}
+use Rattle.std.proofs.Common.{◌≡◌, inl, inr, ℕ, ◌+◌, ◌-◌, ◌/◌, ◌<◌, ◌≤◌, List, [], length, get_or, Option, Some, None, sym, ◌∙◌, ap, arith}
+use Rattle.std.specs.Prelude.{◌⊎◌, unwrap_or}
 use Rattle.std.proofs.lemmas.List.{length-map, get_or_past}
 use Rattle.std.proofs.lemmas.Bool.{cases_lt, cases_eq}
 use Rattle.std.proofs.lemmas.Nat.{mul-le}
 use Rattle.raf_tree.specs.Hashing.{Hashing}
-use Rattle.raf_tree.specs.Tree.{leaves}
-use Rattle.raf_tree.specs.Kept.{Kept, Keeps}
+use Rattle.raf_tree.specs.Kept.{Kept}
 use Rattle.raf_tree.specs.Laws.{TreeLaws}
 use Rattle.raf_tree.specs.Since.{SameBeside}
 use Rattle.raf_format.specs.Cipher.{Cipher, IsLawful}
@@ -73,8 +72,10 @@ module _ (C : Cipher) (lawful : IsLawful C) (key b : List ℕ) (h : Header) (K :
   off_range i off = elim off [
     | inl low ↦
         let m = mul-le (i + 1) h.chunk_size (K.from / h.chunk_size) h.chunk_size (omega (arith, low)) (omega arith) in
-        inl ((kept_front h.chunk_size h.file_size K.size (K.from / h.chunk_size) (chunk_count h.chunk_size K.end) least spans i low).0,
-        count_above h.chunk_size K.size least i (omega (arith, m, spans.in_new, least)))
+        inl (
+          (kept_front h.chunk_size h.file_size K.size (K.from / h.chunk_size) (chunk_count h.chunk_size K.end) least spans i low).0,
+          count_above h.chunk_size K.size least i (omega (arith, m, spans.in_new, least)),
+        )
     | inr high ↦ elim (cases_lt K.size h.file_size) [
       | inl less ↦ inr (omega (arith, high, until_less s least h.file_size K ranged less), omega (arith, high, until_less s least h.file_size K ranged less, count_more h.chunk_size K.size h.file_size least (omega (arith, less))))
       | inr more ↦ elim (cases_eq K.size h.file_size) [

@@ -1,20 +1,18 @@
 -- A write or a truncation that does nothing: its numbers don't fit, or there is nothing to change.
-use Rattle.std.proofs.Common.{◌≡◌, ◌≢◌, inl, inr, ℕ, ◌+◌, ◌*◌, ◌≤◌, Bool, true, false, cond, not, ◌&&◌, ◌||◌, List, [], ◌∷◌, length, Option, Some, None, refl, sym, ◌∙◌, ap, subst, arith}
+use Rattle.std.proofs.Common.{◌≡◌, ◌≢◌, inl, inr, ℕ, ◌+◌, Bool, true, false, cond, not, ◌&&◌, ◌||◌, List, [], ◌∷◌, Option, Some, None, refl, sym, ◌∙◌, ap, subst, arith}
 use Rattle.std.specs.Prelude.{if◌then◌else◌, is_some}
 use Rattle.std.proofs.lemmas.Bool.{false≢true}
-use Rattle.raf_io.specs.Source.{Takes}
 use Rattle.raf_tree.specs.Hashing.{Hashing}
 use Rattle.raf_format.specs.Cipher.{Cipher}
-use Rattle.raf_format.specs.File.{File, chunk_count, file_of}
+use Rattle.raf_format.specs.File.{File, chunk_count}
 use Rattle.raf.specs.Due.{Due, Answers, is_fault, is_refused}
 use Rattle.raf.specs.Due.Due.{Exactly}
 use Rattle.raf.specs.Concern.{can_have, is_touched, is_needed, touched, needed, fits, none_missing, is_merkle, size_after, sum_where}
 use Rattle.raf.specs.Apply.{apply, answer, changed, after}
 use Rattle.raf.specs.Change.{Change, change_of}
 use Rattle.raf.specs.Image.{image, bytes_after, asked_by}
-use Rattle.raf.specs.Outside.{Outside}
-use Rattle.raf.specs.Handle.{Handle, Holds, Measures, WithTree, OfTree, Grown, KeptAnswer, limit_of, outline}
-use Rattle.raf.specs.Stepped.{Answered, Bounded, HasForm, Went, with_size, refuses}
+use Rattle.raf.specs.Handle.{Handle, Holds, WithTree, OfTree, Grown, KeptAnswer, limit_of, outline}
+use Rattle.raf.specs.Stepped.{Answered, HasForm, Went, with_size, refuses}
 use Rattle.raf.specs.declared.command.Command.{Command}
 use Rattle.raf.specs.declared.command.Reply.{Reply}
 use Rattle.raf.specs.declared.command.Reply.TheVariants.{Refused}
@@ -24,7 +22,7 @@ use Rattle.raf_format.specs.declared.header.Header.{Header}
 use Rattle.raf.proofs.StillSteps.{may_change, sum_none}
 use Rattle.raf.proofs.Moves.{takes_none, moved_any, moved_same, quiet_same}
 use Rattle.raf.proofs.Arms.{Alters, with_chunks, arm_overflow, needed_by, no_merkle}
-use Rattle.raf.proofs.ReadyChanges.{marks, settles, authentic_by, shaped_by}
+use Rattle.raf.proofs.ReadyChanges.{authentic_by, shaped_by}
 
 module _ (C : Cipher) (E : List ℕ → Hashing) (old : Handle) (c : Command) (reply : Reply) (kind : may_change c ≡ true) (unmarked : old.broken ≡ false) (calm : is_fault reply ≡ false)
     (due : (chunks : List (Option (List ℕ))) → apply (limit_of old) (with_chunks C old.header chunks) c ≡ (Exactly reply, with_chunks C old.header chunks))

@@ -1,16 +1,15 @@
 -- The storage of a file from its header and its records.
-use Rattle.std.proofs.Common.{◌≡◌, ◌≢◌, inl, inr, ℕ, zero, suc, ◌+◌, ◌-◌, ◌*◌, ◌<◌, ◌≤◌, min, max, Bool, true, false, cond, ◌&&◌, List, [], ◌∷◌, ◌++◌, length, take, drop, get_or, Option, Some, None, refl, sym, ◌∙◌, ap, arith, length-append, length-take, length-drop, take-append-drop}
-use Rattle.std.specs.Prelude.{nat_lt, nat_le, nat_eq, unwrap_or}
-use Rattle.std.proofs.lemmas.List.{drop-drop, take-take, drop-take}
-use Rattle.std.proofs.lemmas.Bool.{cases_lt, cases_eq, cases_Bool}
+use Rattle.std.proofs.Common.{◌≡◌, ◌≢◌, inl, inr, ℕ, suc, ◌+◌, ◌-◌, ◌*◌, ◌<◌, ◌≤◌, min, Bool, true, false, cond, ◌&&◌, List, [], ◌∷◌, ◌++◌, length, take, drop, get_or, Option, None, refl, sym, ◌∙◌, ap, arith, take-append-drop}
+use Rattle.std.specs.Prelude.{nat_lt, nat_le, unwrap_or}
+use Rattle.std.proofs.lemmas.List.{drop-drop}
+use Rattle.std.proofs.lemmas.Bool.{cases_lt, cases_Bool}
 use Rattle.std.proofs.lemmas.Bool.Decides.{nat_tests}
-use Rattle.raf_io.specs.Storage.{resized, spliced}
-use Rattle.raf_format.specs.Cipher.{Cipher, IsLawful}
+use Rattle.raf_format.specs.Cipher.{Cipher}
 use Rattle.raf_format.specs.Header.{sealed_header}
-use Rattle.raf_format.specs.File.{Shape, File, tag_len, sealed, beside, record_at, record_len, record_start, chunk_count, chunk_len, layout_len}
+use Rattle.raf_format.specs.File.{File, tag_len, sealed, record_at, record_len, chunk_count, layout_len}
 use Rattle.raf.specs.Image.{header_of, image_records, image}
-use Rattle.raf.specs.Put.{stride, placed, nonce_at}
-use Rattle.raf.proofs.Placed.{joined, joined_same, rejoined_all}
+use Rattle.raf.specs.Put.{stride, nonce_at}
+use Rattle.raf.proofs.Placed.{joined, rejoined_all}
 use Rattle.raf.proofs.Spans.{chunk_full, layout_ends, layout_empty}
 
 module _ (C : Cipher) (key b : List ℕ) (F : File) (test : ℕ → Bool) (first end : ℕ) (nonces : List ℕ) (order : first ≤ end)

@@ -1,14 +1,14 @@
 -- A change that was carried out leaves the image of the new file.
-use Rattle.std.proofs.Common.{◌≡◌, ◌≢◌, inl, inr, ℕ, zero, suc, ◌+◌, ◌-◌, ◌*◌, ◌/◌, ◌<◌, ◌≤◌, min, max, Bool, true, false, cond, not, ◌&&◌, List, [], ◌∷◌, ◌++◌, length, take, drop, get_or, Option, Some, None, refl, sym, ◌∙◌, ap, subst, arith, length-take, length-drop, take-append-drop}
-use Rattle.std.specs.Prelude.{nat_lt, nat_le, nat_eq, unwrap_or, ◌⊎◌}
+use Rattle.std.proofs.Common.{◌≡◌, inl, inr, ℕ, zero, suc, ◌+◌, ◌-◌, ◌*◌, ◌/◌, ◌<◌, ◌≤◌, Bool, true, false, cond, ◌&&◌, List, [], ◌∷◌, ◌++◌, length, take, drop, get_or, Option, Some, None, refl, sym, ◌∙◌, ap, arith, length-take, take-append-drop}
+use Rattle.std.specs.Prelude.{nat_lt, nat_le, unwrap_or, ◌⊎◌}
 use Rattle.std.proofs.lemmas.List.{take-take, drop-take, nil_from_length}
-use Rattle.std.proofs.lemmas.Bool.{cases_lt, cases_eq}
+use Rattle.std.proofs.lemmas.Bool.{cases_lt}
 use Rattle.std.proofs.lemmas.Bool.Decides.{nat_tests}
 use Rattle.raf_io.specs.Storage.{resized}
 use Rattle.raf_tree.specs.Hashing.{Hashing}
 use Rattle.raf_format.specs.Cipher.{Cipher, IsLawful}
 use Rattle.raf_format.specs.Header.{head_of, header_tag, sealed_header}
-use Rattle.raf_format.specs.File.{File, Shape, IsFile, shape_of, tag_len, sealed, record_at, chunk_count, chunk_len, layout_len, chunk_at, chunks_from, file_of}
+use Rattle.raf_format.specs.File.{File, Shape, IsFile, shape_of, tag_len, sealed, chunk_count, chunk_len, layout_len, chunk_at, chunks_from, file_of}
 use Rattle.raf.specs.Concern.{is_touched}
 use Rattle.raf.specs.Apply.{overlaid, rebuilt, new_chunk, renewed, after}
 use Rattle.raf.specs.Image.{header_of, image}
@@ -16,7 +16,7 @@ use Rattle.raf.specs.Change.{Change}
 use Rattle.raf.specs.Handle.{Handle}
 use Rattle.raf.specs.Stepped.{with_size}
 use Rattle.raf.specs.Plan.{Ranged, Spans, plan_of, kept_len}
-use Rattle.raf.specs.Put.{Carried, KeptOf, stride, placed, nonce_at, finished, record_for, put_chunk}
+use Rattle.raf.specs.Put.{Carried, KeptOf, stride, placed, nonce_at, finished, record_for}
 use Rattle.raf.specs.declared.planning.Plan.{Plan}
 use Rattle.raf_format.specs.declared.header.Header.{Header}
 use Rattle.raf_io.proofs.Splices.{length-resized}

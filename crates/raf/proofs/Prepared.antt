@@ -225,8 +225,11 @@ module _ (C : Cipher) (K : List ℕ) (h : Header) (p : Plan) (len : ℕ) (planne
               (λ auth b told. let m = l.missing b told auth in (p.first, omega arith, some, first_wanted_is m.0, m.1));
           some = some;
           reads = λ auth. (p.first, omega arith, some, kept_first s p len l.needed);
-          early = λ which. (l.kept.left, moved_less old mid _ _ _ _ _ (layout_len s p.before) (needed_records s p len) 0 0 0 l.moved
-              (omega arith) (omega (arith, asked)) (omega arith) (omega arith) (omega arith));
+          early = λ which. (
+            l.kept.left,
+            moved_less old mid _ _ _ _ _ (layout_len s p.before) (needed_records s p len) 0 0 0 l.moved
+                (omega arith) (omega (arith, asked)) (omega arith) (omega arith) (omega arith),
+          );
           left = takes_nothing old.left mid.left C.nonce_len l.kept.left;
           bytes = l.kept.bytes;
           durable = l.kept.durable;
@@ -251,9 +254,12 @@ module _ (C : Cipher) (K : List ℕ) (h : Header) (p : Plan) (len : ℕ) (planne
                 (λ auth b told. let n = m.missing b (l.kept.bytes ∙ told) auth in (p.end - 1, omega (arith, some), omega (arith, some), n.0, n.1));
             some = some;
             reads = λ auth. (p.end - 1, omega (arith, some), omega (arith, some), kept_by s p len (p.end - 1) m.needed);
-            early = λ which. (k.left, moved_less old new _ _ _ _ _ (layout_len s p.before) (needed_records s p len) 0 0 0
-                (moved_then old mid new _ _ _ _ _ _ _ _ _ _ l.moved m.moved)
-                (omega arith) (omega (arith, asked)) (omega arith) (omega arith) (omega arith));
+            early = λ which. (
+              k.left,
+              moved_less old new _ _ _ _ _ (layout_len s p.before) (needed_records s p len) 0 0 0
+                  (moved_then old mid new _ _ _ _ _ _ _ _ _ _ l.moved m.moved)
+                  (omega arith) (omega (arith, asked)) (omega arith) (omega arith) (omega arith),
+            );
             left = takes_nothing old.left new.left C.nonce_len k.left;
             bytes = k.bytes;
             durable = k.durable;

@@ -1,15 +1,13 @@
 -- A plan is that of a change: which chunks are touched and needed, and what becomes of them.
-use Rattle.std.proofs.Common.{◌≡◌, ◌≢◌, inl, inr, ℕ, zero, suc, ◌+◌, ◌-◌, ◌*◌, ◌/◌, ◌<◌, ◌≤◌, min, max, Bool, true, false, cond, not, ◌&&◌, ◌||◌, List, [], ◌∷◌, ◌++◌, length, take, drop, get_or, Option, Some, None, refl, sym, ◌∙◌, ap, subst, arith, length-take}
-use Rattle.std.specs.Prelude.{nat_lt, nat_le, nat_eq, unwrap_or, ◌⊎◌}
-use Rattle.std.proofs.lemmas.List.{take-take}
+use Rattle.std.proofs.Common.{◌≡◌, ◌≢◌, inl, inr, ℕ, ◌+◌, ◌-◌, ◌*◌, ◌/◌, ◌<◌, ◌≤◌, min, Bool, true, false, cond, not, ◌&&◌, List, [], length, refl, sym, ◌∙◌, ap, subst, arith}
+use Rattle.std.specs.Prelude.{nat_lt, nat_le}
 use Rattle.std.proofs.lemmas.Bool.{cases_lt, cases_eq, le-leb}
 use Rattle.std.proofs.lemmas.Bool.Decides.{nat_tests}
 use Rattle.std.proofs.lemmas.Nat.{div_below, le-div, mul-le, div-add-mod', mod_below}
-use Rattle.raf_format.specs.File.{Shape, File, chunk_count, chunk_len, layout_len}
+use Rattle.raf_format.specs.File.{Shape, File, chunk_count, chunk_len}
 use Rattle.raf.specs.Concern.{meets, is_touched, is_needed}
 use Rattle.raf.specs.Change.{Change, write_change, truncate_change}
-use Rattle.raf.specs.Plan.{Spans, Ranged, Planned, kept_len, plan_of}
-use Rattle.raf.specs.declared.planning.Plan.{Plan}
+use Rattle.raf.specs.Plan.{Spans, Ranged, kept_len, plan_of}
 use Rattle.raf.proofs.Spans.{count_above, count_below, count_covers, count_more}
 
 module _ (s : Shape) (least : 16 ≤ s.chunk_size) where

@@ -1,26 +1,25 @@
 -- The image of the new file opens to it.
-use Rattle.std.proofs.Common.{◌≡◌, ◌≢◌, inl, inr, ℕ, ◌+◌, ◌-◌, ◌*◌, ◌/◌, ◌^◌, ◌<◌, ◌≤◌, min, Bool, true, false, cond, ◌&&◌, List, [], ◌∷◌, ◌++◌, length, take, drop, get_or, Option, Some, None, refl, sym, ◌∙◌, ap, arith, length-take, length-drop}
+use Rattle.std.proofs.Common.{◌≡◌, inl, inr, ℕ, ◌+◌, ◌-◌, ◌*◌, ◌/◌, ◌^◌, ◌<◌, ◌≤◌, Bool, true, false, cond, ◌&&◌, List, [], ◌++◌, length, take, drop, get_or, Option, Some, None, refl, sym, ◌∙◌, ap, arith, length-take, length-drop}
 use Rattle.std.specs.Prelude.{nat_lt, nat_le, unwrap_or, ◌⊎◌}
 use Rattle.std.proofs.lemmas.List.{ext_get_or, take-take, drop-take, take_at, drop_at}
 use Rattle.std.proofs.lemmas.Bool.{cases_lt}
 use Rattle.std.proofs.lemmas.Bool.Decides.{nat_tests}
 use Rattle.std.proofs.lemmas.Nat.{mul-le}
 use Rattle.raf_format.specs.Cipher.{Cipher, IsLawful}
-use Rattle.raf_format.specs.Header.{Says, InRange, Tagged, between, head_of, header_tag, sealed_header}
-use Rattle.raf_format.specs.File.{File, Shape, IsFile, shape_of, tag_len, beside, sealed, record_at, record_len, record_start, chunk_count, chunk_len, layout_len, unsealed, chunk_at, chunks_from, file_of}
+use Rattle.raf_format.specs.Header.{Says, InRange, Tagged, between, header_tag, sealed_header}
+use Rattle.raf_format.specs.File.{File, Shape, IsFile, shape_of, tag_len, beside, sealed, record_at, record_start, chunk_count, chunk_len, layout_len, unsealed, chunk_at, chunks_from, file_of}
 use Rattle.raf.specs.Concern.{is_touched}
-use Rattle.raf.specs.Apply.{new_chunk, renewed, after}
-use Rattle.raf.specs.Image.{header_of, image}
+use Rattle.raf.specs.Apply.{renewed, after}
+use Rattle.raf.specs.Image.{image}
 use Rattle.raf.specs.Change.{Change}
 use Rattle.raf.specs.Stepped.{with_size}
 use Rattle.raf.specs.Plan.{Ranged, Spans}
 use Rattle.raf.specs.Put.{nonce_at}
 use Rattle.raf_format.specs.declared.header.Header.{Header}
 use Rattle.raf_format.proofs.Versions.{is_tag_len}
-use Rattle.raf_format.proofs.SealedHeaders.{length_header, sealed_says, sealed_tagged}
-use Rattle.raf.proofs.Imaged.{piece}
+use Rattle.raf_format.proofs.SealedHeaders.{sealed_says, sealed_tagged}
 use Rattle.raf.proofs.AfterChange.{Parts, image_parts}
-use Rattle.raf.proofs.Pictures.{length-rebuilt, length-new, chunks_at, new_header, tests, renewed_at, chunk_is, chunk_stays, front_same, old_is, old_at as old_of, made as made_of}
+use Rattle.raf.proofs.Pictures.{length-rebuilt, length-new, chunks_at, new_header, tests, chunk_is, chunk_stays, front_same, old_is, old_at as old_of, made as made_of}
 use Rattle.raf.proofs.Chunks.{length-chunks}
 use Rattle.raf.proofs.Ranges.{planned_spans}
 use Rattle.raf.proofs.Spans.{kept_front, kept_back}

@@ -1,7 +1,7 @@
 -- Sums over the touched chunks, and over those that are needed.
-use Rattle.std.proofs.Common.{◌≡◌, ◌≢◌, inl, inr, ℕ, zero, suc, ◌+◌, ◌-◌, ◌*◌, ◌/◌, ◌<◌, ◌≤◌, min, max, Bool, true, false, cond, not, ◌&&◌, ◌||◌, List, length, refl, sym, ◌∙◌, ap, arith}
-use Rattle.std.specs.Prelude.{nat_lt, nat_le, nat_eq, if◌then◌else◌}
-use Rattle.std.proofs.lemmas.Bool.{cases_lt, cases_eq, cases_Bool, lt-ltb, le-ltb}
+use Rattle.std.proofs.Common.{◌≡◌, inl, inr, ℕ, zero, suc, ◌+◌, ◌-◌, ◌*◌, ◌/◌, ◌<◌, ◌≤◌, min, max, Bool, true, false, cond, not, ◌&&◌, length, refl, sym, ◌∙◌, ap, arith}
+use Rattle.std.specs.Prelude.{nat_lt, nat_le, if◌then◌else◌}
+use Rattle.std.proofs.lemmas.Bool.{cases_lt, cases_Bool, lt-ltb, le-ltb}
 use Rattle.std.proofs.lemmas.Bool.Decides.{nat_tests}
 use Rattle.std.proofs.lemmas.Nat.{mul-le}
 use Rattle.raf_format.specs.File.{Shape, File, chunk_count, chunk_len, record_len}
@@ -10,7 +10,7 @@ use Rattle.raf.specs.Change.{Change}
 use Rattle.raf.specs.Plan.{Ranged, Spans, plan_of, kept_len}
 use Rattle.raf.specs.Put.{stride, needed_record, needed_records, new_records}
 use Rattle.raf.specs.declared.planning.Plan.{Plan}
-use Rattle.raf.proofs.Spans.{chunk_full, count_above, count_covers}
+use Rattle.raf.proofs.Spans.{chunk_full, count_covers}
 use Rattle.raf.proofs.Fills.{kept_short}
 use Rattle.raf.proofs.Ranges.{planned_spans, touched_ranged, needed_kept, middle_kept}
 

@@ -134,13 +134,5 @@ pub fn plan_truncate<A: Algorithm>(header: &Header, size: u64, limit: Option<u64
         before
     };
     let layout = admit::<A>(header, size, limit)?;
-    Some(plan_by(
-        header.chunk_size,
-        before,
-        size,
-        from,
-        size,
-        0,
-        layout,
-    ))
+    Some(plan_by(header.chunk_size, before, size, from, size, 0, layout))
 }

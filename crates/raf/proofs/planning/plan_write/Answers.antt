@@ -1,4 +1,4 @@
-use Rattle.std.proofs.Common.{◌≡◌, ◌+◌, max, length, refl, arith}
+use Rattle.std.proofs.Common.{refl, arith}
 use Rattle.raf_format.specs.Cipher.{cipher_of}
 use Rattle.raf_format.specs.File.{shape_of}
 use Rattle.raf.specs.Change.{write_change}
