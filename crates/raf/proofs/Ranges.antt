@@ -91,6 +91,10 @@ module _ (s : Shape) (least : 16 ≤ s.chunk_size) where
               omega (arith, count_above s.chunk_size K.end least (K.from / s.chunk_size) lt)
         ]
 
+    -- where the old bytes of a chunk that can stay end
+    abbrev stop : ℕ → ℕ
+    stop i = min (i * s.chunk_size + s.chunk_size) (min before K.size)
+
     -- between the first touched chunk and the last one nothing is kept
     pub middle_kept : (i : ℕ) → K.from / s.chunk_size < i → i + 1 < chunk_count s.chunk_size K.end → kept_len s.chunk_size (plan_of s before K) (length K.bytes) i ≡ 0
     middle_kept i past inside =
@@ -99,13 +103,13 @@ module _ (s : Shape) (least : 16 ≤ s.chunk_size) where
           | inl some ↦
               let c = r.covered i past (omega (arith, below)) (omega (arith, some)) (omega (arith, some)) in
               let a : nat_le K.offset (i * s.chunk_size) ≡ true = lt_le c.0 in
-              let b : nat_le (min (i * s.chunk_size + s.chunk_size) (min before K.size)) (K.offset + length K.bytes) ≡ true = lt_le (omega (arith, c.1)) in
-              ap (λ (t : Bool). cond {A = ℕ} (nat_lt (i * s.chunk_size) (min (i * s.chunk_size + s.chunk_size) (min before K.size)) && not (t && nat_le (min (i * s.chunk_size + s.chunk_size) (min before K.size)) (K.offset + length K.bytes))) (min (i * s.chunk_size + s.chunk_size) (min before K.size) - i * s.chunk_size) 0) a
-              ∙ ap (λ (t : Bool). cond {A = ℕ} (nat_lt (i * s.chunk_size) (min (i * s.chunk_size + s.chunk_size) (min before K.size)) && not (true && t)) (min (i * s.chunk_size + s.chunk_size) (min before K.size) - i * s.chunk_size) 0) b
-              ∙ off (nat_lt (i * s.chunk_size) (min (i * s.chunk_size + s.chunk_size) (min before K.size))) (min (i * s.chunk_size + s.chunk_size) (min before K.size) - i * s.chunk_size)
+              let b : nat_le (stop i) (K.offset + length K.bytes) ≡ true = lt_le (omega (arith, c.1)) in
+              ap (λ (t : Bool). cond {A = ℕ} (nat_lt (i * s.chunk_size) (stop i) && not (t && nat_le (stop i) (K.offset + length K.bytes))) (stop i - i * s.chunk_size) 0) a
+              ∙ ap (λ (t : Bool). cond {A = ℕ} (nat_lt (i * s.chunk_size) (stop i) && not (true && t)) (stop i - i * s.chunk_size) 0) b
+              ∙ off (nat_lt (i * s.chunk_size) (stop i)) (stop i - i * s.chunk_size)
           | inr none ↦
-              let a : nat_lt (i * s.chunk_size) (min (i * s.chunk_size + s.chunk_size) (min before K.size)) ≡ false = grind (arith, nat_tests) in
-              ap (λ (t : Bool). cond {A = ℕ} (t && not (nat_le K.offset (i * s.chunk_size) && nat_le (min (i * s.chunk_size + s.chunk_size) (min before K.size)) (K.offset + length K.bytes))) (min (i * s.chunk_size + s.chunk_size) (min before K.size) - i * s.chunk_size) 0) a
+              let a : nat_lt (i * s.chunk_size) (stop i) ≡ false = grind (arith, nat_tests) in
+              ap (λ (t : Bool). cond {A = ℕ} (t && not (nat_le K.offset (i * s.chunk_size) && nat_le (stop i) (K.offset + length K.bytes))) (stop i - i * s.chunk_size) 0) a
         ]
       where
         lt_le : {a b : ℕ} → a ≤ b → nat_le a b ≡ true
@@ -185,22 +189,22 @@ module _ (s : Shape) (least : 16 ≤ s.chunk_size) where
         ap (λ (t : Bool). t && nat_lt (i * F.shape.chunk_size) (min (i * F.shape.chunk_size + F.shape.chunk_size) (min F.size K.size)) && not (nat_le K.offset (i * F.shape.chunk_size) && nat_le (min (i * F.shape.chunk_size + F.shape.chunk_size) (min F.size K.size)) (K.offset + length K.bytes))) on
         ∙ ap (λ (n : ℕ). true && nat_lt (i * n) (min (i * n + n) (min F.size K.size)) && not (nat_le K.offset (i * n) && nat_le (min (i * n + n) (min F.size K.size)) (K.offset + length K.bytes))) is
         ∙ ap (λ (n : ℕ). true && nat_lt (i * s.chunk_size) (min (i * s.chunk_size + s.chunk_size) (min n K.size)) && not (nat_le K.offset (i * s.chunk_size) && nat_le (min (i * s.chunk_size + s.chunk_size) (min n K.size)) (K.offset + length K.bytes))) same
-        ∙ elim (cases_lt (i * s.chunk_size) (min (i * s.chunk_size + s.chunk_size) (min before K.size))) [
+        ∙ elim (cases_lt (i * s.chunk_size) (stop i)) [
           | inl some ↦
-              let ta : nat_lt (i * s.chunk_size) (min (i * s.chunk_size + s.chunk_size) (min before K.size)) ≡ true = grind (arith, nat_tests) in
-              go some ta (not (nat_le K.offset (i * s.chunk_size) && nat_le (min (i * s.chunk_size + s.chunk_size) (min before K.size)) (K.offset + length K.bytes)))
+              let ta : nat_lt (i * s.chunk_size) (stop i) ≡ true = grind (arith, nat_tests) in
+              go some ta (not (nat_le K.offset (i * s.chunk_size) && nat_le (stop i) (K.offset + length K.bytes)))
           | inr none ↦
-              let ta : nat_lt (i * s.chunk_size) (min (i * s.chunk_size + s.chunk_size) (min before K.size)) ≡ false = grind (arith, nat_tests) in
-              ap (λ (t : Bool). true && t && not (nat_le K.offset (i * s.chunk_size) && nat_le (min (i * s.chunk_size + s.chunk_size) (min before K.size)) (K.offset + length K.bytes))) ta
-              ∙ sym (ap (λ (t : Bool). nat_lt 0 (cond {A = ℕ} (t && not (nat_le K.offset (i * s.chunk_size) && nat_le (min (i * s.chunk_size + s.chunk_size) (min before K.size)) (K.offset + length K.bytes))) (min (i * s.chunk_size + s.chunk_size) (min before K.size) - i * s.chunk_size) 0)) ta)
+              let ta : nat_lt (i * s.chunk_size) (stop i) ≡ false = grind (arith, nat_tests) in
+              ap (λ (t : Bool). true && t && not (nat_le K.offset (i * s.chunk_size) && nat_le (stop i) (K.offset + length K.bytes))) ta
+              ∙ sym (ap (λ (t : Bool). nat_lt 0 (cond {A = ℕ} (t && not (nat_le K.offset (i * s.chunk_size) && nat_le (stop i) (K.offset + length K.bytes))) (stop i - i * s.chunk_size) 0)) ta)
         ]
       where
-        go : i * s.chunk_size < min (i * s.chunk_size + s.chunk_size) (min before K.size) → nat_lt (i * s.chunk_size) (min (i * s.chunk_size + s.chunk_size) (min before K.size)) ≡ true → (t : Bool)
-            → (true && nat_lt (i * s.chunk_size) (min (i * s.chunk_size + s.chunk_size) (min before K.size)) && t) ≡ nat_lt 0 (cond {A = ℕ} (nat_lt (i * s.chunk_size) (min (i * s.chunk_size + s.chunk_size) (min before K.size)) && t) (min (i * s.chunk_size + s.chunk_size) (min before K.size) - i * s.chunk_size) 0)
+        go : i * s.chunk_size < stop i → nat_lt (i * s.chunk_size) (stop i) ≡ true → (t : Bool)
+            → (true && nat_lt (i * s.chunk_size) (stop i) && t) ≡ nat_lt 0 (cond {A = ℕ} (nat_lt (i * s.chunk_size) (stop i) && t) (stop i - i * s.chunk_size) 0)
         go some ta true =
-            let n : nat_lt 0 (min (i * s.chunk_size + s.chunk_size) (min before K.size) - i * s.chunk_size) ≡ true = grind (arith, nat_tests) in
+            let n : nat_lt 0 (stop i - i * s.chunk_size) ≡ true = grind (arith, nat_tests) in
             ap (λ (t : Bool). true && t && true) ta ∙ sym n
-            ∙ sym (ap (λ (t : Bool). nat_lt 0 (cond {A = ℕ} (t && true) (min (i * s.chunk_size + s.chunk_size) (min before K.size) - i * s.chunk_size) 0)) ta)
+            ∙ sym (ap (λ (t : Bool). nat_lt 0 (cond {A = ℕ} (t && true) (stop i - i * s.chunk_size) 0)) ta)
         go some ta false =
             ap (λ (t : Bool). true && t && false) ta
-            ∙ sym (ap (λ (t : Bool). nat_lt 0 (cond {A = ℕ} (t && false) (min (i * s.chunk_size + s.chunk_size) (min before K.size) - i * s.chunk_size) 0)) ta)
+            ∙ sym (ap (λ (t : Bool). nat_lt 0 (cond {A = ℕ} (t && false) (stop i - i * s.chunk_size) 0)) ta)

@@ -66,42 +66,47 @@ sum_pointwise s t f g same index (suc n) =
     ap (λ (k : ℕ). k + sum_where s f (index + 1) n) (same index) ∙ ap (λ (k : ℕ). cond {A = ℕ} (t index) (g index) 0 + k) (sum_pointwise s t f g same (index + 1) n)
 
 module _ (s : Shape) (before : ℕ) (least : 16 ≤ s.chunk_size) (K : Change) (r : Ranged s.chunk_size before K) (F : File) (is : F.shape.chunk_size ≡ s.chunk_size) where
-  spans : Spans s.chunk_size before K.size (K.from / s.chunk_size) (chunk_count s.chunk_size K.end)
+  abbrev first : ℕ
+  first = K.from / s.chunk_size
+
+  abbrev end : ℕ
+  end = chunk_count s.chunk_size K.end
+
+  spans : Spans s.chunk_size before K.size first end
   spans = planned_spans s least before K r
 
   -- the same for each touched chunk
-  pub touched_each : (v : ℕ) → sum_where (is_touched F K) (λ _. v) 0 (chunk_count s.chunk_size K.size) ≡ (chunk_count s.chunk_size K.end - K.from / s.chunk_size) * v
+  pub touched_each : (v : ℕ) → sum_where (is_touched F K) (λ _. v) 0 (chunk_count s.chunk_size K.size) ≡ (end - first) * v
   touched_each v =
-      let t = sum_total (is_touched F K) (λ _. v) (λ i. i * v) (K.from / s.chunk_size) (chunk_count s.chunk_size K.end) spans.order (touched_ranged s least before K r F is) (λ i lo hi. omega arith) (chunk_count s.chunk_size K.size) spans.below in
-      let e : chunk_count s.chunk_size K.end ≡ K.from / s.chunk_size + (chunk_count s.chunk_size K.end - K.from / s.chunk_size) = omega (arith, spans.order) in
+      let t = sum_total (is_touched F K) (λ _. v) (λ i. i * v) first end spans.order (touched_ranged s least before K r F is) (λ i lo hi. omega arith) (chunk_count s.chunk_size K.size) spans.below in
+      let e : end ≡ first + (end - first) = omega (arith, spans.order) in
       omega (arith, t, ap (λ (k : ℕ). k * v) e)
 
   -- the new records
-  touched_some : K.from / s.chunk_size < chunk_count s.chunk_size K.end
+  touched_some : first < end
       → sum_where (is_touched F K) (λ i. record_len s K.size i) 0 (chunk_count s.chunk_size K.size) ≡ new_records s (plan_of s before K)
   touched_some some =
-      let end = chunk_count s.chunk_size K.end in
-      let t = sum_total (is_touched F K) (λ i. record_len s K.size i) P (K.from / s.chunk_size) (chunk_count s.chunk_size K.end) spans.order (touched_ranged s least before K r F is) step (chunk_count s.chunk_size K.size) spans.below in
-      let e : chunk_count s.chunk_size K.end - 1 ≡ K.from / s.chunk_size + (chunk_count s.chunk_size K.end - 1 - K.from / s.chunk_size) = omega (arith, some) in
-      let whole : new_records s (plan_of s before K) ≡ (chunk_count s.chunk_size K.end - 1 - K.from / s.chunk_size) * (stride s) + record_len s K.size (chunk_count s.chunk_size K.end - 1) =
-      ap (λ (t : Bool). cond {A = ℕ} t ((chunk_count s.chunk_size K.end - 1 - K.from / s.chunk_size) * (stride s) + record_len s K.size (chunk_count s.chunk_size K.end - 1)) 0) (lt-ltb (K.from / s.chunk_size) (chunk_count s.chunk_size K.end) some) in
-      omega (arith, t, inside (K.from / s.chunk_size) some, outside (chunk_count s.chunk_size K.end) (omega arith), ap (λ (k : ℕ). k * (stride s)) e, whole)
+      let t = sum_total (is_touched F K) (λ i. record_len s K.size i) P first end spans.order (touched_ranged s least before K r F is) step (chunk_count s.chunk_size K.size) spans.below in
+      let e : end - 1 ≡ first + (end - 1 - first) = omega (arith, some) in
+      let whole : new_records s (plan_of s before K) ≡ (end - 1 - first) * (stride s) + record_len s K.size (end - 1) =
+      ap (λ (t : Bool). cond {A = ℕ} t ((end - 1 - first) * (stride s) + record_len s K.size (end - 1)) 0) (lt-ltb first end some) in
+      omega (arith, t, inside first some, outside end (omega arith), ap (λ (k : ℕ). k * (stride s)) e, whole)
     where
       P : ℕ → ℕ
-      P i = cond {A = ℕ} (nat_lt i (chunk_count s.chunk_size K.end)) (i * (stride s))
-          ((chunk_count s.chunk_size K.end - 1) * (stride s) + (record_len s K.size (chunk_count s.chunk_size K.end - 1)))
+      P i = cond {A = ℕ} (nat_lt i end) (i * (stride s))
+          ((end - 1) * (stride s) + (record_len s K.size (end - 1)))
 
-      inside : (i : ℕ) → i < chunk_count s.chunk_size K.end → P i ≡ i * (stride s)
-      inside i lt = ap (λ (t : Bool). cond {A = ℕ} t (i * (stride s)) ((chunk_count s.chunk_size K.end - 1) * (stride s) + (record_len s K.size (chunk_count s.chunk_size K.end - 1)))) (lt-ltb i (chunk_count s.chunk_size K.end) lt)
+      inside : (i : ℕ) → i < end → P i ≡ i * (stride s)
+      inside i lt = ap (λ (t : Bool). cond {A = ℕ} t (i * (stride s)) ((end - 1) * (stride s) + (record_len s K.size (end - 1)))) (lt-ltb i end lt)
 
-      outside : (i : ℕ) → chunk_count s.chunk_size K.end ≤ i → P i ≡ (chunk_count s.chunk_size K.end - 1) * (stride s) + (record_len s K.size (chunk_count s.chunk_size K.end - 1))
-      outside i le = ap (λ (t : Bool). cond {A = ℕ} t (i * (stride s)) ((chunk_count s.chunk_size K.end - 1) * (stride s) + (record_len s K.size (chunk_count s.chunk_size K.end - 1)))) (le-ltb i (chunk_count s.chunk_size K.end) le)
+      outside : (i : ℕ) → end ≤ i → P i ≡ (end - 1) * (stride s) + (record_len s K.size (end - 1))
+      outside i le = ap (λ (t : Bool). cond {A = ℕ} t (i * (stride s)) ((end - 1) * (stride s) + (record_len s K.size (end - 1)))) (le-ltb i end le)
 
-      step : (i : ℕ) → K.from / s.chunk_size ≤ i → i < chunk_count s.chunk_size K.end → P (i + 1) ≡ P i + (record_len s K.size i)
-      step i lo hi = elim (cases_lt (i + 1) (chunk_count s.chunk_size K.end)) [
+      step : (i : ℕ) → first ≤ i → i < end → P (i + 1) ≡ P i + (record_len s K.size i)
+      step i lo hi = elim (cases_lt (i + 1) end) [
         | inl more ↦ omega (arith, inside i hi, inside (i + 1) more, chunk_full s.chunk_size K.size least i (omega (arith, more, spans.below)))
         | inr last ↦
-            let e : chunk_count s.chunk_size K.end - 1 ≡ i = omega (arith, last, hi) in
+            let e : end - 1 ≡ i = omega (arith, last, hi) in
             omega (arith, inside i hi, outside (i + 1) last, ap (λ (k : ℕ). k * (stride s)) e, ap (chunk_len s.chunk_size K.size) e)
       ]
 
@@ -129,24 +134,24 @@ module _ (s : Shape) (before : ℕ) (least : 16 ≤ s.chunk_size) (K : Change) (
   ]
 
   -- the old records that are needed
-  needed_some : F.size ≡ before → K.from / s.chunk_size < chunk_count s.chunk_size K.end
+  needed_some : F.size ≡ before → first < end
       → sum_where (is_needed F K) (λ i. record_len s before i) 0 (chunk_count s.chunk_size before) ≡ needed_records s (plan_of s before K) (length K.bytes)
   needed_some same some =
-      let t = sum_ranged (is_touched F K) needs_at P (K.from / s.chunk_size) (chunk_count s.chunk_size K.end) spans.order (touched_ranged s least before K r F is) step (chunk_count s.chunk_size before) 0 in
-      let a : max (K.from / s.chunk_size) (min 0 (chunk_count s.chunk_size K.end)) ≡ K.from / s.chunk_size = omega arith in
-      let whole : needed_records s (plan_of s before K) (length K.bytes) ≡ A + needs_at (chunk_count s.chunk_size K.end - 1) =
-      ap (λ (t : Bool). cond {A = ℕ} t (A + needs_at (chunk_count s.chunk_size K.end - 1)) 0) (lt-ltb (K.from / s.chunk_size) (chunk_count s.chunk_size K.end) some) in
+      let t = sum_ranged (is_touched F K) needs_at P first end spans.order (touched_ranged s least before K r F is) step (chunk_count s.chunk_size before) 0 in
+      let a : max first (min 0 end) ≡ first = omega arith in
+      let whole : needed_records s (plan_of s before K) (length K.bytes) ≡ A + needs_at (end - 1) =
+      ap (λ (t : Bool). cond {A = ℕ} t (A + needs_at (end - 1)) 0) (lt-ltb first end some) in
       sum_pointwise (is_needed F K) (is_touched F K) (λ i. record_len s before i) needs_at (needed_each same) 0 (chunk_count s.chunk_size before)
       ∙ omega (arith, t, ap P a, P_first, P_last, whole)
     where
       A : ℕ
-      A = cond {A = ℕ} (nat_lt (K.from / s.chunk_size + 1) (chunk_count s.chunk_size K.end)) (needs_at (K.from / s.chunk_size)) 0
+      A = cond {A = ℕ} (nat_lt (first + 1) end) (needs_at first) 0
 
       P : ℕ → ℕ
-      P i = cond {A = ℕ} (nat_lt (K.from / s.chunk_size) i) A 0 + cond {A = ℕ} (nat_lt (chunk_count s.chunk_size K.end - 1) i) (needs_at (chunk_count s.chunk_size K.end - 1)) 0
+      P i = cond {A = ℕ} (nat_lt first i) A 0 + cond {A = ℕ} (nat_lt (end - 1) i) (needs_at (end - 1)) 0
 
-      P_is : (i : ℕ) (x y : ℕ) → cond {A = ℕ} (nat_lt (K.from / s.chunk_size) i) A 0 ≡ x → cond {A = ℕ} (nat_lt (chunk_count s.chunk_size K.end - 1) i) (needs_at (chunk_count s.chunk_size K.end - 1)) 0 ≡ y → P i ≡ x + y
-      P_is i x y a b = ap (λ (k : ℕ). k + cond {A = ℕ} (nat_lt (chunk_count s.chunk_size K.end - 1) i) (needs_at (chunk_count s.chunk_size K.end - 1)) 0) a ∙ ap (λ (k : ℕ). x + k) b
+      P_is : (i : ℕ) (x y : ℕ) → cond {A = ℕ} (nat_lt first i) A 0 ≡ x → cond {A = ℕ} (nat_lt (end - 1) i) (needs_at (end - 1)) 0 ≡ y → P i ≡ x + y
+      P_is i x y a b = ap (λ (k : ℕ). k + cond {A = ℕ} (nat_lt (end - 1) i) (needs_at (end - 1)) 0) a ∙ ap (λ (k : ℕ). x + k) b
 
       taken : (n i v : ℕ) → n < i → cond {A = ℕ} (nat_lt n i) v 0 ≡ v
       taken n i v lt = ap (λ (t : Bool). cond {A = ℕ} t v 0) (lt-ltb n i lt)
@@ -154,61 +159,61 @@ module _ (s : Shape) (before : ℕ) (least : 16 ≤ s.chunk_size) (K : Change) (
       left : (n i v : ℕ) → i ≤ n → cond {A = ℕ} (nat_lt n i) v 0 ≡ 0
       left n i v le = ap (λ (t : Bool). cond {A = ℕ} t v 0) (le-ltb n i le)
 
-      P_first : P (K.from / s.chunk_size) ≡ 0 + 0
-      P_first = P_is (K.from / s.chunk_size) 0 0 (left (K.from / s.chunk_size) (K.from / s.chunk_size) A (omega arith)) (left (chunk_count s.chunk_size K.end - 1) (K.from / s.chunk_size) (needs_at (chunk_count s.chunk_size K.end - 1)) (omega (arith, some)))
+      P_first : P first ≡ 0 + 0
+      P_first = P_is first 0 0 (left first first A (omega arith)) (left (end - 1) first (needs_at (end - 1)) (omega (arith, some)))
 
-      A_zero : K.from / s.chunk_size + 1 ≡ chunk_count s.chunk_size K.end → A ≡ 0
+      A_zero : first + 1 ≡ end → A ≡ 0
       A_zero one = left' (omega (arith, one))
         where
-          left' : chunk_count s.chunk_size K.end ≤ K.from / s.chunk_size + 1 → A ≡ 0
-          left' le = ap (λ (t : Bool). cond {A = ℕ} t (needs_at (K.from / s.chunk_size)) 0) (le-ltb (K.from / s.chunk_size + 1) (chunk_count s.chunk_size K.end) le)
+          left' : end ≤ first + 1 → A ≡ 0
+          left' le = ap (λ (t : Bool). cond {A = ℕ} t (needs_at first) 0) (le-ltb (first + 1) end le)
 
-      A_is : K.from / s.chunk_size + 1 < chunk_count s.chunk_size K.end → A ≡ needs_at (K.from / s.chunk_size)
-      A_is more = ap (λ (t : Bool). cond {A = ℕ} t (needs_at (K.from / s.chunk_size)) 0) (lt-ltb (K.from / s.chunk_size + 1) (chunk_count s.chunk_size K.end) more)
+      A_is : first + 1 < end → A ≡ needs_at first
+      A_is more = ap (λ (t : Bool). cond {A = ℕ} t (needs_at first) 0) (lt-ltb (first + 1) end more)
 
-      step : (i : ℕ) → K.from / s.chunk_size ≤ i → i < chunk_count s.chunk_size K.end → P (i + 1) ≡ P i + needs_at i
-      step i lo hi = elim (cases_lt (K.from / s.chunk_size) i) [
+      step : (i : ℕ) → first ≤ i → i < end → P (i + 1) ≡ P i + needs_at i
+      step i lo hi = elim (cases_lt first i) [
         | inr at_first ↦
-            let is : K.from / s.chunk_size ≡ i = omega (arith, lo, at_first) in
-            let before_i = P_is i 0 0 (left (K.from / s.chunk_size) i A at_first) (left (chunk_count s.chunk_size K.end - 1) i (needs_at (chunk_count s.chunk_size K.end - 1)) (omega (arith, hi))) in
-            elim (cases_lt (i + 1) (chunk_count s.chunk_size K.end)) [
+            let is : first ≡ i = omega (arith, lo, at_first) in
+            let before_i = P_is i 0 0 (left first i A at_first) (left (end - 1) i (needs_at (end - 1)) (omega (arith, hi))) in
+            elim (cases_lt (i + 1) end) [
               | inl more ↦
-                  let after_i = P_is (i + 1) A 0 (taken (K.from / s.chunk_size) (i + 1) A (omega (arith, is))) (left (chunk_count s.chunk_size K.end - 1) (i + 1) (needs_at (chunk_count s.chunk_size K.end - 1)) (omega (arith, more))) in
+                  let after_i = P_is (i + 1) A 0 (taken first (i + 1) A (omega (arith, is))) (left (end - 1) (i + 1) (needs_at (end - 1)) (omega (arith, more))) in
                   omega (arith, before_i, after_i, A_is (omega (arith, is, more)), ap needs_at is)
               | inr last ↦
-                  let after_i = P_is (i + 1) A (needs_at (chunk_count s.chunk_size K.end - 1)) (taken (K.from / s.chunk_size) (i + 1) A (omega (arith, is))) (taken (chunk_count s.chunk_size K.end - 1) (i + 1) (needs_at (chunk_count s.chunk_size K.end - 1)) (omega (arith, last, hi))) in
-                  let e : chunk_count s.chunk_size K.end - 1 ≡ i = omega (arith, last, hi) in
+                  let after_i = P_is (i + 1) A (needs_at (end - 1)) (taken first (i + 1) A (omega (arith, is))) (taken (end - 1) (i + 1) (needs_at (end - 1)) (omega (arith, last, hi))) in
+                  let e : end - 1 ≡ i = omega (arith, last, hi) in
                   omega (arith, before_i, after_i, A_zero (omega (arith, is, last, hi)), ap needs_at e)
             ]
         | inl past ↦
-            let before_i = P_is i A 0 (taken (K.from / s.chunk_size) i A past) (left (chunk_count s.chunk_size K.end - 1) i (needs_at (chunk_count s.chunk_size K.end - 1)) (omega (arith, hi))) in
-            elim (cases_lt (i + 1) (chunk_count s.chunk_size K.end)) [
+            let before_i = P_is i A 0 (taken first i A past) (left (end - 1) i (needs_at (end - 1)) (omega (arith, hi))) in
+            elim (cases_lt (i + 1) end) [
               | inl more ↦
-                  let after_i = P_is (i + 1) A 0 (taken (K.from / s.chunk_size) (i + 1) A (omega (arith, past))) (left (chunk_count s.chunk_size K.end - 1) (i + 1) (needs_at (chunk_count s.chunk_size K.end - 1)) (omega (arith, more))) in
+                  let after_i = P_is (i + 1) A 0 (taken first (i + 1) A (omega (arith, past))) (left (end - 1) (i + 1) (needs_at (end - 1)) (omega (arith, more))) in
                   omega (arith, before_i, after_i, none_kept i (middle_kept s least before K r i past more))
               | inr last ↦
-                  let after_i = P_is (i + 1) A (needs_at (chunk_count s.chunk_size K.end - 1)) (taken (K.from / s.chunk_size) (i + 1) A (omega (arith, past))) (taken (chunk_count s.chunk_size K.end - 1) (i + 1) (needs_at (chunk_count s.chunk_size K.end - 1)) (omega (arith, last, hi))) in
-                  let e : chunk_count s.chunk_size K.end - 1 ≡ i = omega (arith, last, hi) in
+                  let after_i = P_is (i + 1) A (needs_at (end - 1)) (taken first (i + 1) A (omega (arith, past))) (taken (end - 1) (i + 1) (needs_at (end - 1)) (omega (arith, last, hi))) in
+                  let e : end - 1 ≡ i = omega (arith, last, hi) in
                   omega (arith, before_i, after_i, ap needs_at e)
             ]
       ]
 
-      P_last : P (max (K.from / s.chunk_size) (min (0 + chunk_count s.chunk_size before) (chunk_count s.chunk_size K.end))) ≡ A + needs_at (chunk_count s.chunk_size K.end - 1)
-      P_last = elim (cases_lt (chunk_count s.chunk_size before) (chunk_count s.chunk_size K.end)) [
+      P_last : P (max first (min (0 + chunk_count s.chunk_size before) end)) ≡ A + needs_at (end - 1)
+      P_last = elim (cases_lt (chunk_count s.chunk_size before) end) [
         | inr all ↦
-            let e : max (K.from / s.chunk_size) (min (0 + chunk_count s.chunk_size before) (chunk_count s.chunk_size K.end)) ≡ chunk_count s.chunk_size K.end = omega (arith, all, some) in
-            ap P e ∙ P_is (chunk_count s.chunk_size K.end) A (needs_at (chunk_count s.chunk_size K.end - 1)) (taken (K.from / s.chunk_size) (chunk_count s.chunk_size K.end) A some) (taken (chunk_count s.chunk_size K.end - 1) (chunk_count s.chunk_size K.end) (needs_at (chunk_count s.chunk_size K.end - 1)) (omega (arith, some)))
+            let e : max first (min (0 + chunk_count s.chunk_size before) end) ≡ end = omega (arith, all, some) in
+            ap P e ∙ P_is end A (needs_at (end - 1)) (taken first end A some) (taken (end - 1) end (needs_at (end - 1)) (omega (arith, some)))
         | inl fewer ↦
-            let last_zero = past_old (chunk_count s.chunk_size K.end - 1) (omega (arith, fewer)) in
-            elim (cases_lt (K.from / s.chunk_size) (chunk_count s.chunk_size before)) [
+            let last_zero = past_old (end - 1) (omega (arith, fewer)) in
+            elim (cases_lt first (chunk_count s.chunk_size before)) [
               | inl had ↦
-                  let e : max (K.from / s.chunk_size) (min (0 + chunk_count s.chunk_size before) (chunk_count s.chunk_size K.end)) ≡ chunk_count s.chunk_size before = omega (arith, fewer, had) in
-                  let q = P_is (chunk_count s.chunk_size before) A 0 (taken (K.from / s.chunk_size) (chunk_count s.chunk_size before) A had) (left (chunk_count s.chunk_size K.end - 1) (chunk_count s.chunk_size before) (needs_at (chunk_count s.chunk_size K.end - 1)) (omega (arith, fewer))) in
+                  let e : max first (min (0 + chunk_count s.chunk_size before) end) ≡ chunk_count s.chunk_size before = omega (arith, fewer, had) in
+                  let q = P_is (chunk_count s.chunk_size before) A 0 (taken first (chunk_count s.chunk_size before) A had) (left (end - 1) (chunk_count s.chunk_size before) (needs_at (end - 1)) (omega (arith, fewer))) in
                   omega (arith, ap P e, q, last_zero)
               | inr none ↦
-                  let e : max (K.from / s.chunk_size) (min (0 + chunk_count s.chunk_size before) (chunk_count s.chunk_size K.end)) ≡ K.from / s.chunk_size = omega (arith, fewer, none) in
-                  let z = past_old (K.from / s.chunk_size) none in
-                  elim (cases_lt (K.from / s.chunk_size + 1) (chunk_count s.chunk_size K.end)) [
+                  let e : max first (min (0 + chunk_count s.chunk_size before) end) ≡ first = omega (arith, fewer, none) in
+                  let z = past_old first none in
+                  elim (cases_lt (first + 1) end) [
                     | inl more ↦ omega (arith, ap P e, P_first, last_zero, A_is more, z)
                     | inr one ↦ omega (arith, ap P e, P_first, last_zero, A_zero (omega (arith, one, some)))
                   ]
@@ -217,19 +222,19 @@ module _ (s : Shape) (before : ℕ) (least : 16 ≤ s.chunk_size) (K : Change) (
 
   -- where no chunk is touched, both are none
   pub touched_records : sum_where (is_touched F K) (λ i. record_len s K.size i) 0 (chunk_count s.chunk_size K.size) ≡ new_records s (plan_of s before K)
-  touched_records = elim (cases_lt (K.from / s.chunk_size) (chunk_count s.chunk_size K.end)) [
+  touched_records = elim (cases_lt first end) [
     | inl some ↦ touched_some some
     | inr none ↦
-        let t = sum_total (is_touched F K) (λ i. record_len s K.size i) (λ _. 0) (K.from / s.chunk_size) (chunk_count s.chunk_size K.end) spans.order (touched_ranged s least before K r F is) (λ i lo hi. absurd (omega (arith, lo, hi, none))) (chunk_count s.chunk_size K.size) spans.below in
-        omega (arith, t) ∙ sym (ap (λ (t : Bool). cond {A = ℕ} t ((chunk_count s.chunk_size K.end - 1 - K.from / s.chunk_size) * (stride s) + record_len s K.size (chunk_count s.chunk_size K.end - 1)) 0) (le-ltb (K.from / s.chunk_size) (chunk_count s.chunk_size K.end) none))
+        let t = sum_total (is_touched F K) (λ i. record_len s K.size i) (λ _. 0) first end spans.order (touched_ranged s least before K r F is) (λ i lo hi. absurd (omega (arith, lo, hi, none))) (chunk_count s.chunk_size K.size) spans.below in
+        omega (arith, t) ∙ sym (ap (λ (t : Bool). cond {A = ℕ} t ((end - 1 - first) * (stride s) + record_len s K.size (end - 1)) 0) (le-ltb first end none))
   ]
 
   pub needed_total : F.size ≡ before → sum_where (is_needed F K) (λ i. record_len s before i) 0 (chunk_count s.chunk_size before) ≡ needed_records s (plan_of s before K) (length K.bytes)
-  needed_total same = elim (cases_lt (K.from / s.chunk_size) (chunk_count s.chunk_size K.end)) [
+  needed_total same = elim (cases_lt first end) [
     | inl some ↦ needed_some same some
     | inr none ↦
-        let t = sum_ranged (is_touched F K) needs_at (λ _. 0) (K.from / s.chunk_size) (chunk_count s.chunk_size K.end) spans.order (touched_ranged s least before K r F is) (λ i lo hi. absurd (omega (arith, lo, hi, none))) (chunk_count s.chunk_size before) 0 in
+        let t = sum_ranged (is_touched F K) needs_at (λ _. 0) first end spans.order (touched_ranged s least before K r F is) (λ i lo hi. absurd (omega (arith, lo, hi, none))) (chunk_count s.chunk_size before) 0 in
         sum_pointwise (is_needed F K) (is_touched F K) (λ i. record_len s before i) needs_at (needed_each same) 0 (chunk_count s.chunk_size before)
         ∙ omega (arith, t)
-        ∙ sym (ap (λ (t : Bool). cond {A = ℕ} t ((if nat_lt (K.from / s.chunk_size + 1) (chunk_count s.chunk_size K.end) then needs_at (K.from / s.chunk_size) else 0) + needs_at (chunk_count s.chunk_size K.end - 1)) 0) (le-ltb (K.from / s.chunk_size) (chunk_count s.chunk_size K.end) none))
+        ∙ sym (ap (λ (t : Bool). cond {A = ℕ} t ((if nat_lt (first + 1) end then needs_at first else 0) + needs_at (end - 1)) 0) (le-ltb first end none))
   ]
