@@ -126,11 +126,11 @@ module _ (C : Cipher) (E : List ℕ → Hashing) (key : List ℕ) (h : Header) (
   abbrev pub whole : ℕ
   whole = layout_len (shape_of C h) h.file_size
 
-  abbrev with_chunks : List (Option (List ℕ)) → File
+  abbrev pub with_chunks : List (Option (List ℕ)) → File
   with_chunks chunks = record { shape = shape_of C h; id = h.id; size = h.file_size; chunks = chunks }
 
   -- what holds of the header's numbers, whatever the chunks, holds of the file that is held and of the outline
-  measured : (P : File → Type 0) → ((chunks : List (Option (List ℕ))) → P (with_chunks chunks)) → (F : File) → Measures C (at a) F → P F
+  pub measured : (P : File → Type 0) → ((chunks : List (Option (List ℕ))) → P (with_chunks chunks)) → (F : File) → Measures C (at a) F → P F
   measured P all F (inl held) = subst P (sym held.file) (all (chunks_of C (C.chunk_key key h.id) h held.bytes))
   measured P all F (inr is) = subst P (sym is) (all [])
 
@@ -141,10 +141,10 @@ module _ (C : Cipher) (E : List ℕ → Hashing) (key : List ℕ) (h : Header) (
   merkle_due F c r is holds =
       subst (λ (p : Due × File). Answers (λ r. OfTree E (at a) (KeptAnswer F c r)) p.0 r) (sym (apply_some t.max_chunks F c is)) (of_tree (KeptAnswer F c r) holds)
 
-  free : (F : File) (c : Command) → IsTreeCommand c → is_barred (apply (limit_of (at a)) F c).0 ≡ false
+  pub free : (F : File) (c : Command) → IsTreeCommand c → is_barred (apply (limit_of (at a)) F c).0 ≡ false
   free F c is = ap (λ (p : Due × File). is_barred p.0) (apply_some t.max_chunks F c is)
 
-  taken_up : (F : File) (c : Command) → IsTreeCommand c → is_refused (apply (limit_of (at a)) F c).0 ≡ false
+  pub taken_up : (F : File) (c : Command) → IsTreeCommand c → is_refused (apply (limit_of (at a)) F c).0 ≡ false
   taken_up F c is = ap (λ (p : Due × File). is_refused p.0) (apply_some t.max_chunks F c is)
 
   -- the chunks that match, and the first that doesn't
@@ -311,7 +311,7 @@ module _ (C : Cipher) (E : List ℕ → Hashing) (key : List ℕ) (h : Header) (
         (calm : is_fault answer ≡ false → Quiet a b × ((answer ≡ reply.Done) ⊎ (answer ≡ reply.Refused AuthenticationFailed)))
         (stopped : refuses answer ≡ true → ((broken ≡ true) × Rose a.calls b.calls) ⊎ ((broken ≡ false) × (b.calls ≡ a.calls) × (u ≡ t)))
         (done : refuses answer ≡ false → broken ≡ false) where
-      abbrev now : Handle
+      abbrev pub now : Handle
       now = handle_of b key h (Some u) broken
 
       b_changes : b.changes ≡ a.changes
