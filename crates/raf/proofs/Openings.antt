@@ -41,6 +41,10 @@ all_some C K h b j (suc n) there =
     whole (Some x) m is = refl
     whole None m is = cc
 
+pub none_is : (o : Option Tree) → is_some o ≡ false → o ≡ None
+none_is None is = refl
+none_is (Some t) is = cc
+
 no_tree : (o : Option Tree) (t : Tree) → o ≡ None → o ≡ Some t → ⊥
 no_tree None t is other = cc
 no_tree (Some u) t is other = cc
@@ -58,7 +62,7 @@ shaped_from (Some t) b u s is = (t, refl)
 shaped_from None (Some x) u s is = absurd s
 shaped_from None None u s is = cc
 
-some_tree : (o : Option Tree) → is_some o ≡ true → (t : Tree) × (o ≡ Some t)
+pub some_tree : (o : Option Tree) → is_some o ≡ true → (t : Tree) × (o ≡ Some t)
 some_tree (Some t) is = (t, refl)
 some_tree None is = cc
 

@@ -35,7 +35,7 @@ use Rattle.raf.proofs.Chunks.{get_chunk, length-chunks}
 use Rattle.raf.proofs.Needed.{one_missing, all_there}
 use Rattle.raf.proofs.Openings.{all_some}
 use Rattle.raf.proofs.Grown.{shaped_as, same_shape}
-use Rattle.raf.proofs.TreeSteps.{at, count, whole, measured, free, taken_up, went_rebuilt}
+use Rattle.raf.proofs.TreeSteps.{at, with_chunks, count, whole, measured, free, taken_up, went_rebuilt}
 use Rattle.raf.proofs.TreeSteps.IsTreeCommand.{rebuild}
 
 -- chunks of which one is missing, or none
@@ -73,7 +73,7 @@ module _ (C : Cipher) (E : List ℕ → Hashing) (key : List ℕ) (h : Header) (
     kind = Io;
     is = refl;
     cause = subst (λ (n : Handle). Caused Io a n.outside) (sym is) why;
-    may = measured C E key h t a x set (λ F. Faultable (limit_of (at C E key h t a x set a)) Io F command.Rebuild) (λ chunks. (free C E key h t a x set _ command.Rebuild rebuild, omega (arith, some)));
+    may = measured C E key h t a x set (λ F. Faultable (limit_of (at C E key h t a x set a)) Io F command.Rebuild) (λ chunks. (free C E key h t a x set (with_chunks C E key h t a x set chunks) command.Rebuild rebuild, omega (arith, some)));
     short = λ F measures same exact. absurd (not_rng same);
   }
     where
@@ -86,7 +86,7 @@ module _ (C : Cipher) (E : List ℕ → Hashing) (key : List ℕ) (h : Header) (
     kind = Hash;
     is = refl;
     cause = subst (λ (n : Handle). Caused Hash a n.outside) (sym is) why;
-    may = measured C E key h t a x set (λ F. Faultable (limit_of (at C E key h t a x set a)) Hash F command.Rebuild) (λ chunks. (taken_up C E key h t a x set _ command.Rebuild rebuild, omega arith));
+    may = measured C E key h t a x set (λ F. Faultable (limit_of (at C E key h t a x set a)) Hash F command.Rebuild) (λ chunks. (taken_up C E key h t a x set (with_chunks C E key h t a x set chunks) command.Rebuild rebuild, omega arith));
     short = λ F measures same exact. absurd (not_rng same);
   }
     where
