@@ -1,4 +1,4 @@
-use Rattle.std.proofs.Common.{◌≡◌, ℕ, List, length, sym, ap, ◌∙◌}
+use Rattle.std.proofs.Common.{length, sym, ap, ◌∙◌}
 use Rattle.aegis_core.specs.Family.{Family, sealed_by}
 use Rattle.aegis_core.proofs.VariantLemmas.{started}
 use Rattle.aegis_core.proofs.OneText.{seal_code}

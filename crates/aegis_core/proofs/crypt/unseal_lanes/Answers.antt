@@ -1,4 +1,4 @@
-use Rattle.std.proofs.Common.{◌≡◌, refl, ◌*◌, ℕ, List, length, ap, sym, ◌∙◌}
+use Rattle.std.proofs.Common.{refl, ◌*◌, ℕ, length, ap, sym, ◌∙◌}
 use Rattle.aegis_core.specs.Family.{Family, sealed_by}
 use Rattle.aegis_core.proofs.VariantLemmas.{started}
 use Rattle.aegis_core.proofs.OneText.{seal_code, no_other, tag_part, pos_same}

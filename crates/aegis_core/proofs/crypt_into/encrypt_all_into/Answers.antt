@@ -1,6 +1,5 @@
-use Rattle.std.proofs.Common.{◌≡◌, ◌+◌, ◌*◌, ◌/◌, ◌≤◌, ℕ, List, length, refl, sym, ap, ◌∙◌, arith}
+use Rattle.std.proofs.Common.{◌≡◌, ◌+◌, ◌*◌, ◌/◌, ◌≤◌, ℕ, length, refl, sym, ap, ◌∙◌, arith}
 use Rattle.aegis_core.specs.Blocks.{first_blocks}
-use Rattle.aegis_core.specs.Tail.{absorbed_tail}
 use Rattle.aegis_core.proofs.LoopLemmas.{absorb_step, absorb_end, encrypt_into_step, encrypt_into_end, decrypting_none, rest_at, pos_along, block_fits, le_split, back_to}
 use Rattle.aegis_core.proofs.crypt_into.encrypt_all_into.Goals as goal
 

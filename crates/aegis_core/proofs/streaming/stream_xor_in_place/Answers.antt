@@ -1,4 +1,3 @@
-use Rattle.std.proofs.Common.{length}
 use Rattle.aegis_core.specs.declared.variant.Variant.TheVariants.{Aegis128L, Aegis128X2, Aegis128X4, Aegis256, Aegis256X2, Aegis256X4}
 use Rattle.aegis_core.proofs.VariantLemmas.{xor_stream_as}
 use Rattle.aegis_core.proofs.streaming.stream_xor_in_place.Goals as goal

@@ -1,4 +1,4 @@
-use Rattle.std.proofs.Common.{◌≡◌, take, length, ◌∙◌, arith}
+use Rattle.std.proofs.Common.{◌∙◌, arith}
 use Rattle.std.proofs.lemmas.List.{take_all}
 use Rattle.aegis_core.proofs.LaneLemmas.{one_initial, two_initial, four_initial}
 use Rattle.aegis_core.proofs.lanes128.Lanes128LaneState.start.Goals as goal

@@ -1,4 +1,3 @@
-use Rattle.std.proofs.Common.{◌≡◌, length}
 use Rattle.aegis_core.proofs.LaneLemmas256.{high_half, started, one_initial, two_initial, four_initial}
 use Rattle.aegis_core.proofs.lanes256.Lanes256LaneState.start.Goals as goal
 

@@ -1,4 +1,4 @@
-use Rattle.std.proofs.Common.{◌≡◌, ◌*◌, [], length, sym, ap, ◌∙◌, arith}
+use Rattle.std.proofs.Common.{◌≡◌, ◌*◌, [], length, sym, ap, ◌∙◌}
 use Rattle.aegis_core.specs.Held.{lane_count}
 use Rattle.aegis_core.proofs.RowLemmas.{sum_none, whole_sum, one_added, two_added, four_added}
 use Rattle.aegis_core.proofs.row.Row.put_sums.Goals as goal
