@@ -3,12 +3,15 @@
 ghost use Rattle.std.specs.Prelude.{◌≡◌};
 ghost use Rattle.aegis_core.specs.Streams.{encrypted_total, mac_total};
 
-use super::lent::{lends, refuses};
-use super::macs::comes_in_two;
-use super::pieces::each_cut;
+mod cuts;
+mod lent;
+
+use crate::macs::comes_in_two;
 use aegis_128::{aegis128l, aegis128x2, aegis128x4};
 use aegis_256::{aegis256, aegis256x2, aegis256x4};
 use aegis_core::{Cipher, CipherKind, Decryptor, Encryptor, LaneState, Mac};
+use cuts::each_cut;
+use lent::{lends, refuses};
 use std::alloc::Global;
 use std::fmt::Debug;
 use std::process::Abort;
