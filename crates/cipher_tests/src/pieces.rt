@@ -1,15 +1,14 @@
 //! What each cipher does with messages and texts in pieces, by its public names.
 
-ghost use Rattle.std.specs.Prelude.{◌≡◌};
-ghost use Rattle.aegis_core.specs.Streams.{encrypted_total, mac_total};
-
 mod cuts;
 mod lent;
 
 use crate::macs::comes_in_two;
 use aegis_128::{aegis128l, aegis128x2, aegis128x4};
 use aegis_256::{aegis256, aegis256x2, aegis256x4};
-use aegis_core::{Cipher, CipherKind, Decryptor, Encryptor, LaneState, Mac};
+use aegis_core::{
+    Cipher, CipherKind, Decryptor, Encryptor, LaneState, Mac, SoftLanes128, SoftLanes256,
+};
 use cuts::each_cut;
 use lent::{lends, refuses};
 use std::alloc::Global;
@@ -39,126 +38,120 @@ fn shows<K: CipherKind<S, KEY_BYTES>, S: LaneState, const KEY_BYTES: usize>(
     shows_as(rt, alloc, mac, names[3])
 }
 
-// All that a cipher does in pieces, under the associated data `ad`. The decryptor has room for 13 bytes.
-// More of both are made here: a function with the type in its signature knows that it fits in memory.
+// All that a cipher does in pieces. With the types of all three in its signature, of which none is handed in, the
+// function knows that they fit in memory, and makes them.
 fn comes_in_pieces<K: CipherKind<S, KEY_BYTES>, S: LaneState, const KEY_BYTES: usize>(
     rt: &impl Abort,
     alloc: Global,
-    cipher: &Cipher<K, S, KEY_BYTES, 16>,
-    encryptor: Encryptor<K, S, KEY_BYTES, 16>,
-    decryptor: Decryptor<'_, K, S, KEY_BYTES, 16>,
-    mac: &Mac<K, S, KEY_BYTES, 16>,
+    _encryptor: Option<Encryptor<K, S, KEY_BYTES, 16>>,
+    _decryptor: Option<Decryptor<'_, K, S, KEY_BYTES, 16>>,
+    _mac: Option<Mac<K, S, KEY_BYTES, 16>>,
     names: [&str; 4],
-) -> Result<(), Fail>
-    requires encryptor { encrypted_total encryptor ≡ 0 }
-    requires mac { mac_total mac.now ≡ 0 }
-{
-    shows(rt, alloc, cipher, &encryptor, &decryptor, mac, names)?;
-    lends(rt, cipher, encryptor, decryptor);
-    refuses(rt, alloc, cipher);
-    comes_in_two(rt, mac);
-    let mut room = [0xff; 130];
-    each_cut(
-        rt,
-        cipher,
-        cipher.encryptor(b"ad"),
-        cipher.decryptor(b"ad", &mut room),
-    );
+) -> Result<(), Fail> {
+    let cipher = Cipher::<K, S, KEY_BYTES, 16>::new(&[5; KEY_BYTES], &[6; KEY_BYTES]);
+    let mac = Mac::<K, S, KEY_BYTES, 16>::new(&[5; KEY_BYTES]);
+    let mut room = [0xff; 13];
+    let (encryptor, decryptor) = (cipher.encryptor(b"ad"), cipher.decryptor(b"ad", &mut room));
+    shows(rt, alloc, &cipher, &encryptor, &decryptor, &mac, names)?;
+    lends(rt, &cipher, encryptor, decryptor);
+    refuses(rt, alloc, &cipher);
+    comes_in_two(rt, &mac);
+    each_cut(rt, &cipher, None, None);
     Ok(())
 }
 
-#[test]
-fn aegis128l_in_pieces(rt: HostRuntime) -> Result<(), Fail> {
-    let cipher = aegis128l::Aegis128L::<16>::new(&[5; 16], &[6; 16]);
-    let mut room = [0xff; 13];
-    let encryptor: aegis128l::Encryptor<16> = cipher.encryptor(b"ad");
-    let decryptor: aegis128l::Decryptor<'_, 16> = cipher.decryptor(b"ad", &mut room);
-    let mac = aegis128l::Aegis128LMac::<16>::new(&[5; 16]);
-    let names = [
-        "Aegis128L { .. }",
-        "aegis128l::Encryptor { .. }",
-        "aegis128l::Decryptor { .. }",
-        "Aegis128LMac { .. }",
-    ];
-    comes_in_pieces(&rt, rt.alloc(), &cipher, encryptor, decryptor, &mac, names)
+// One cipher, by the names of its module.
+macro_rules! pieces {
+    ($rt:ident, $module:ident, $lanes:ident, $key_bytes:literal, $mac:ident, $names:expr) => {
+        comes_in_pieces::<$module::Kind, $lanes, $key_bytes>(
+            &$rt,
+            $rt.alloc(),
+            None::<$module::Encryptor<16>>,
+            None::<$module::Decryptor<'_, 16>>,
+            None::<$module::$mac<16>>,
+            $names,
+        )
+    };
 }
 
 #[test]
-fn aegis128x2_in_pieces(rt: HostRuntime) -> Result<(), Fail> {
-    let cipher = aegis128x2::Aegis128X2::<16>::new(&[5; 16], &[6; 16]);
-    let mut room = [0xff; 13];
-    let encryptor: aegis128x2::Encryptor<16> = cipher.encryptor(b"ad");
-    let decryptor: aegis128x2::Decryptor<'_, 16> = cipher.decryptor(b"ad", &mut room);
-    let mac = aegis128x2::Aegis128X2Mac::<16>::new(&[5; 16]);
-    let names = [
-        "Aegis128X2 { .. }",
-        "aegis128x2::Encryptor { .. }",
-        "aegis128x2::Decryptor { .. }",
-        "Aegis128X2Mac { .. }",
-    ];
-    comes_in_pieces(&rt, rt.alloc(), &cipher, encryptor, decryptor, &mac, names)
-}
-
-#[test]
-fn aegis128x4_in_pieces(rt: HostRuntime) -> Result<(), Fail> {
-    let cipher = aegis128x4::Aegis128X4::<16>::new(&[5; 16], &[6; 16]);
-    let mut room = [0xff; 13];
-    let encryptor: aegis128x4::Encryptor<16> = cipher.encryptor(b"ad");
-    let decryptor: aegis128x4::Decryptor<'_, 16> = cipher.decryptor(b"ad", &mut room);
-    let mac = aegis128x4::Aegis128X4Mac::<16>::new(&[5; 16]);
-    let names = [
-        "Aegis128X4 { .. }",
-        "aegis128x4::Encryptor { .. }",
-        "aegis128x4::Decryptor { .. }",
-        "Aegis128X4Mac { .. }",
-    ];
-    comes_in_pieces(&rt, rt.alloc(), &cipher, encryptor, decryptor, &mac, names)
-}
-
-#[test]
-fn aegis256_in_pieces(rt: HostRuntime) -> Result<(), Fail> {
-    let cipher = aegis256::Aegis256::<16>::new(&[5; 32], &[6; 32]);
-    let mut room = [0xff; 13];
-    let encryptor: aegis256::Encryptor<16> = cipher.encryptor(b"ad");
-    let decryptor: aegis256::Decryptor<'_, 16> = cipher.decryptor(b"ad", &mut room);
-    let mac = aegis256::Aegis256Mac::<16>::new(&[5; 32]);
-    let names = [
-        "Aegis256 { .. }",
-        "aegis256::Encryptor { .. }",
-        "aegis256::Decryptor { .. }",
-        "Aegis256Mac { .. }",
-    ];
-    comes_in_pieces(&rt, rt.alloc(), &cipher, encryptor, decryptor, &mac, names)
-}
-
-#[test]
-fn aegis256x2_in_pieces(rt: HostRuntime) -> Result<(), Fail> {
-    let cipher = aegis256x2::Aegis256X2::<16>::new(&[5; 32], &[6; 32]);
-    let mut room = [0xff; 13];
-    let encryptor: aegis256x2::Encryptor<16> = cipher.encryptor(b"ad");
-    let decryptor: aegis256x2::Decryptor<'_, 16> = cipher.decryptor(b"ad", &mut room);
-    let mac = aegis256x2::Aegis256X2Mac::<16>::new(&[5; 32]);
-    let names = [
-        "Aegis256X2 { .. }",
-        "aegis256x2::Encryptor { .. }",
-        "aegis256x2::Decryptor { .. }",
-        "Aegis256X2Mac { .. }",
-    ];
-    comes_in_pieces(&rt, rt.alloc(), &cipher, encryptor, decryptor, &mac, names)
-}
-
-#[test]
-fn aegis256x4_in_pieces(rt: HostRuntime) -> Result<(), Fail> {
-    let cipher = aegis256x4::Aegis256X4::<16>::new(&[5; 32], &[6; 32]);
-    let mut room = [0xff; 13];
-    let encryptor: aegis256x4::Encryptor<16> = cipher.encryptor(b"ad");
-    let decryptor: aegis256x4::Decryptor<'_, 16> = cipher.decryptor(b"ad", &mut room);
-    let mac = aegis256x4::Aegis256X4Mac::<16>::new(&[5; 32]);
-    let names = [
-        "Aegis256X4 { .. }",
-        "aegis256x4::Encryptor { .. }",
-        "aegis256x4::Decryptor { .. }",
-        "Aegis256X4Mac { .. }",
-    ];
-    comes_in_pieces(&rt, rt.alloc(), &cipher, encryptor, decryptor, &mac, names)
+fn messages_and_texts_come_in_pieces(rt: HostRuntime) -> Result<(), Fail> {
+    pieces!(
+        rt,
+        aegis128l,
+        SoftLanes128,
+        16,
+        Aegis128LMac,
+        [
+            "Aegis128L { .. }",
+            "aegis128l::Encryptor { .. }",
+            "aegis128l::Decryptor { .. }",
+            "Aegis128LMac { .. }"
+        ]
+    )?;
+    pieces!(
+        rt,
+        aegis128x2,
+        SoftLanes128,
+        16,
+        Aegis128X2Mac,
+        [
+            "Aegis128X2 { .. }",
+            "aegis128x2::Encryptor { .. }",
+            "aegis128x2::Decryptor { .. }",
+            "Aegis128X2Mac { .. }"
+        ]
+    )?;
+    pieces!(
+        rt,
+        aegis128x4,
+        SoftLanes128,
+        16,
+        Aegis128X4Mac,
+        [
+            "Aegis128X4 { .. }",
+            "aegis128x4::Encryptor { .. }",
+            "aegis128x4::Decryptor { .. }",
+            "Aegis128X4Mac { .. }"
+        ]
+    )?;
+    pieces!(
+        rt,
+        aegis256,
+        SoftLanes256,
+        32,
+        Aegis256Mac,
+        [
+            "Aegis256 { .. }",
+            "aegis256::Encryptor { .. }",
+            "aegis256::Decryptor { .. }",
+            "Aegis256Mac { .. }"
+        ]
+    )?;
+    pieces!(
+        rt,
+        aegis256x2,
+        SoftLanes256,
+        32,
+        Aegis256X2Mac,
+        [
+            "Aegis256X2 { .. }",
+            "aegis256x2::Encryptor { .. }",
+            "aegis256x2::Decryptor { .. }",
+            "Aegis256X2Mac { .. }"
+        ]
+    )?;
+    pieces!(
+        rt,
+        aegis256x4,
+        SoftLanes256,
+        32,
+        Aegis256X4Mac,
+        [
+            "Aegis256X4 { .. }",
+            "aegis256x4::Encryptor { .. }",
+            "aegis256x4::Decryptor { .. }",
+            "Aegis256X4Mac { .. }"
+        ]
+    )
 }

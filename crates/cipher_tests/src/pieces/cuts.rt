@@ -110,16 +110,13 @@ fn seals_as<K: CipherKind<S, KEY_BYTES>, S: LaneState, const KEY_BYTES: usize, c
     from_pieces(rt, decryptor, sealed, cut);
 }
 
-// A message of 130 bytes, cut in two at each place, seals to what it seals to in one call, and comes
-// back. The first cut is made with what was handed in.
+// A message of 130 bytes, cut in two at each place, seals to what it seals to in one call, and comes back.
 pub fn each_cut<K: CipherKind<S, KEY_BYTES>, S: LaneState, const KEY_BYTES: usize>(
     rt: &impl Abort,
     cipher: &Cipher<K, S, KEY_BYTES, 16>,
-    encryptor: Encryptor<K, S, KEY_BYTES, 16>,
-    decryptor: Decryptor<'_, K, S, KEY_BYTES, 16>,
-)
-    requires { encrypted_total encryptor ≡ 0 }
-{
+    _encryptor: Option<Encryptor<K, S, KEY_BYTES, 16>>,
+    _decryptor: Option<Decryptor<'_, K, S, KEY_BYTES, 16>>,
+) {
     let mut message = [0; 130];
     for (place, byte) in message.iter_mut().zip(9..) {
         *place = byte;
@@ -127,8 +124,7 @@ pub fn each_cut<K: CipherKind<S, KEY_BYTES>, S: LaneState, const KEY_BYTES: usiz
     let mut text = message;
     let tag = cipher.encrypt_in_place(&mut text, b"ad");
     let sealed: Sealed<130> = Sealed { message, text, tag };
-    seals_as(rt, cipher, b"ad", encryptor, decryptor, &sealed, 0);
-    for cut in 1..131 {
+    for cut in 0..131 {
         let mut room = [0xff; 130];
         let (encryptor, decryptor) = (cipher.encryptor(b"ad"), cipher.decryptor(b"ad", &mut room));
         seals_as(rt, cipher, b"ad", encryptor, decryptor, &sealed, cut);
