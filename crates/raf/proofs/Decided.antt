@@ -1,13 +1,13 @@
 -- What a kept tree answers, where it keeps that of a file's chunks.
-use Rattle.std.proofs.Common.{◌≡◌, inl, inr, Bool, true, false, cond, not, ◌&&◌, ◌||◌, ℕ, zero, suc, ◌+◌, ◌*◌, ◌^◌, ◌<◌, ◌≤◌, List, [], ◌∷◌, ◌++◌, length, map, get_or, Option, Some, None, refl, sym, ◌∙◌, ap, subst, arith}
-use Rattle.std.specs.Prelude.{◌⊎◌, unwrap_or, nat_le, is_some, if◌then◌else◌}
+use Rattle.std.proofs.Common.{◌≡◌, inl, inr, Bool, true, false, cond, ℕ, zero, suc, ◌+◌, ◌*◌, ◌^◌, ◌<◌, List, [], ◌∷◌, length, map, get_or, Option, Some, None, refl, sym, ◌∙◌, ap, subst, arith}
+use Rattle.std.specs.Prelude.{nat_le}
 use Rattle.std.proofs.lemmas.Bool.Decides.{nat_tests}
 use Rattle.raf_tree.specs.Hashing.{Hashing}
 use Rattle.raf_tree.specs.Kept.{Kept as Tree, Keeps, kept, tree_height}
 use Rattle.raf_tree.specs.Tree.{node, leaves, leaves_from, root}
 use Rattle.raf_format.specs.File.{File}
 use Rattle.raf.specs.Concern.{none_missing}
-use Rattle.raf.specs.Handle.{Grown, KeptAnswer, FirstBad, Matches}
+use Rattle.raf.specs.Handle.{Grown, KeptAnswer, FirstBad}
 use Rattle.raf.specs.Session.{tree_reply, present}
 use Rattle.raf.specs.declared.command.Command.{Command}
 use Rattle.raf.specs.declared.command.Command.TheVariants as command
@@ -47,7 +47,7 @@ present_is : (chunks : List (List ℕ)) → present (map (λ m. Some m) chunks) 
 present_is [] = refl
 present_is (c ∷ chunks) = ap (λ (l : List (List ℕ)). c ∷ l) (present_is chunks)
 
-all_present : (j : ℕ) (chunks : List (List ℕ)) → none_missing (λ _. true) j (map (λ m. Some m) chunks) ≡ true
+pub all_present : (j : ℕ) (chunks : List (List ℕ)) → none_missing (λ _. true) j (map (λ m. Some m) chunks) ≡ true
 all_present j [] = refl
 all_present j (c ∷ chunks) = all_present (j + 1) chunks
 

@@ -62,3 +62,4 @@ pub mod Finished
 pub mod Committed
 pub mod Changed
 pub mod Sessions
+pub mod Completes

@@ -18,3 +18,4 @@ pub mod Session
 pub mod Ran
 pub mod Growing
 pub mod Verifying
+pub mod Complete

@@ -1,12 +1,12 @@
 -- What a session answers (this project's own).
-use Rattle.std.specs.Prelude.{◌≡◌, ℕ, ◌+◌, ◌-◌, ◌*◌, ◌^◌, ◌<◌, ◌≤◌, max, Bool, true, false, ◌||◌, if◌then◌else◌, List, [], ◌∷◌, ◌++◌, length, take, drop, replicate, Option, Some, None, unwrap_or, Result, IfOk, IfErr, ⊤, ◌⊎◌}
+use Rattle.std.specs.Prelude.{◌≡◌, ℕ, ◌+◌, ◌^◌, ◌<◌, ◌≤◌, max, Bool, true, false, ◌||◌, if◌then◌else◌, List, [], ◌∷◌, ◌++◌, length, take, drop, replicate, Option, Some, None, unwrap_or, Result, IfOk, IfErr, ⊤, ◌⊎◌}
 use Rattle.raf_io.specs.Source.{Takes, TakesAtMost, IsShort}
 use Rattle.raf_tree.specs.Hashing.{Hashing}
 use Rattle.raf_tree.specs.Tree.{root, leaves, height}
 use Rattle.raf_format.specs.Cipher.{Cipher}
 use Rattle.raf_format.specs.File.{File, Opens, layout_len}
 use Rattle.raf.specs.Due.{Answers}
-use Rattle.raf.specs.Apply.{apply, due_to, file_after, longest}
+use Rattle.raf.specs.Apply.{apply, file_after, longest}
 use Rattle.raf.specs.Image.{traced, bytes_after, asked_by, asked_in, changes_in, traffic_in, calls_in}
 use Rattle.raf.specs.Meaning.{Spares, Faultable, Authentic}
 use Rattle.raf.specs.Outside.{Outside, Quiet, Caused, Moved}

@@ -1,15 +1,15 @@
 -- One command on an open file: what every call on it states, each of its own command and reply (this project's own).
-use Rattle.std.specs.Prelude.{◌≡◌, ◌≢◌, ℕ, ◌+◌, ◌-◌, ◌≤◌, min, max, Bool, true, false, not, if◌then◌else◌, List, [], ◌∷◌, length, take, Option, Some, Result, Ok, Err, ⊤, ◌⊎◌}
+use Rattle.std.specs.Prelude.{◌≡◌, ℕ, ◌+◌, ◌-◌, ◌≤◌, min, max, Bool, true, false, if◌then◌else◌, List, length, take, Option, Some, Result, Ok, Err, ◌⊎◌}
 use Rattle.raf_io.specs.Storage.{Told, SyncedTo}
 use Rattle.raf_io.specs.Source.{Takes, TakesAtMost, IsShort}
 use Rattle.raf_tree.specs.Hashing.{Hashing}
 use Rattle.raf_format.specs.Cipher.{Cipher}
 use Rattle.raf_format.specs.File.{File, chunk_count, file_layout}
-use Rattle.raf.specs.Due.{Answers, is_refused, is_barred}
+use Rattle.raf.specs.Due.{Answers, is_refused}
 use Rattle.raf.specs.Concern.{size_after, needed, fits, sum_where}
 use Rattle.raf.specs.Apply.{apply}
 use Rattle.raf.specs.Image.{bytes_after, asked_by, changes_by, traffic_by, calls_by}
-use Rattle.raf.specs.Outside.{Outside, Kept, Quiet, Caused, Moved, Began, MayHaveBegun}
+use Rattle.raf.specs.Outside.{Outside, Quiet, Caused, Moved, Began, MayHaveBegun}
 use Rattle.raf.specs.Handle.{Handle, limit_of, Holds, Measures, outline, WithTree, OfTree, Grown, KeptAnswer}
 use Rattle.raf.specs.Meaning.{Spares, Faultable, Authentic}
 use Rattle.raf_io.specs.Kinds.{kind_of}
@@ -21,7 +21,7 @@ use Rattle.raf.specs.declared.command.Reply.{Reply}
 use Rattle.raf.specs.declared.command.Reply.TheVariants.{Bytes, Wrote, Done, Size, Verified, Commitment, Refused}
 use Rattle.raf_io.specs.declared.errors.Error.{Error}
 use Rattle.raf_io.specs.declared.errors.ErrorKind.{ErrorKind}
-use Rattle.raf_io.specs.declared.errors.ErrorKind.TheVariants.{AuthenticationFailed, Overflow, MerkleNotEnabled, Rng, Broken}
+use Rattle.raf_io.specs.declared.errors.ErrorKind.TheVariants.{AuthenticationFailed, MerkleNotEnabled, Rng, Broken}
 
 -- the header of the same file at another size
 abbrev pub with_size : Header → ℕ → Header

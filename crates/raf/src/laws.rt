@@ -3,6 +3,7 @@ ghost use Rattle.std.specs.Prelude.{◌≡◌, List, ℕ, length, take, Some};
 ghost use Rattle.raf_format.specs.Cipher.{cipher_of};
 ghost use Rattle.raf_format.specs.File.{File, file_of};
 ghost use Rattle.raf.specs.Handle.{Holds};
+ghost use Rattle.raf.specs.Complete.{Complete};
 
 use crate::file::Raf;
 use raf_format::Algorithm;
@@ -17,4 +18,10 @@ pub fn holds_again<A: Algorithm, I: RafIo, R: RafRng, H: MerkleHasher>(
 )
     ensures { (F : File) (c : List ℕ) (held : Holds (cipher_of A.variant) before.now F) → after.now.key ≡ before.now.key → after.now.header ≡ before.now.header → after.now.outside.bytes ≡ Some c
         → take 96 c ≡ take 96 held.bytes → length c ≡ length held.bytes → Holds (cipher_of A.variant) after.now (file_of (cipher_of A.variant) after.now.key after.now.header c) }
+{}
+
+/// Valid input and no fault: on an open file without the kept mark every valid command is answered, whatever memory there is; and a file
+/// is opened or made, and a session answered, but for want of memory.
+pub fn complete<A: Algorithm, H: MerkleHasher>()
+    ensures { Complete (cipher_of A.variant) H.hashing }
 {}

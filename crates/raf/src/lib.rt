@@ -27,7 +27,7 @@ pub use builder::{OpenError, RafBuilder};
 pub use command::{Command, Replies, Reply};
 pub use data::Data;
 pub use file::Raf;
-pub use laws::holds_again;
+pub use laws::{complete, holds_again};
 pub use outside::Parts;
 pub use raf_format::{
     Aegis128L, Aegis128X2, Aegis128X4, Aegis256, Aegis256X2, Aegis256X4, Algorithm, AlgorithmId,
