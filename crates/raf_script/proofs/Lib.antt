@@ -1,0 +1,5 @@
+-- Lemmas of scripts.
+pub mod PartsLemmas
+pub mod NumberLemmas
+pub mod CommandLemmas
+pub mod ReadingLemmas
