@@ -16,7 +16,7 @@ use Rattle.raf_format.specs.Numbers.{variant_of}
 use Rattle.raf_format.specs.declared.algorithm_id.AlgorithmId.{AlgorithmId}
 use Rattle.raf_format.specs.declared.algorithm_id.AlgorithmId.TheVariants.{Aegis128L, Aegis128X2, Aegis128X4, Aegis256, Aegis256X2, Aegis256X4}
 use Rattle.raf_format.specs.declared.version.Version.{Version}
-use Rattle.raf_format.specs.declared.version.Version.TheVariants.{V1, V2}
+use Rattle.raf_format.specs.declared.version.Version.TheVariants.{V1}
 use Rattle.raf_script.specs.Words.{parts, words, number, hex_bytes, some_bytes}
 use Rattle.raf_script.specs.Lines.{◌>>=◌, fits, first, lines, lines_of_parts}
 use Rattle.raf_script.specs.Reading.{plain_command, truncate_command, range_command, command_words, command, commands, argument, algorithm_named, algorithm_words, key_words, randomness_words, tree_words, version_named, start_words, script}
@@ -39,11 +39,11 @@ by_bind (Err n) f y h go = (cc)
 
 -- a choice took one of two ways
 pub by_test : {A P : Type 0} (t : Bool) (r s y : A) → (if t then r else s) ≡ y → (t ≡ true → r ≡ y → P) → (s ≡ y → P) → P
-by_test true r s y h yes no = yes refl h
-by_test false r s y h yes no = no h
+by_test true r s y h took other = took refl h
+by_test false r s y h took other = other h
 
 pub by_word : {A P : Type 0} (w name : List ℕ) (r s y : A) → (if bytes_eq w name then r else s) ≡ y → (w ≡ name → r ≡ y → P) → (s ≡ y → P) → P
-by_word w name r s y h yes no = by_test (bytes_eq w name) r s y h (λ t. yes ((bytes_eq-Decides w name).0 t)) no
+by_word w name r s y h took other = by_test (bytes_eq w name) r s y h (λ t. took ((bytes_eq-Decides w name).0 t)) other
 
 ok_value : {A : Type 0} {x y : A} → ◌≡◌ {A = Result A ℕ} (Ok x) (Ok y) → x ≡ y
 ok_value h = (cc)
