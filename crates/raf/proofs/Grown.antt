@@ -112,6 +112,7 @@ module _ (C : Cipher) (E : List ℕ → Hashing) (K : List ℕ) (h : Header) (a 
     leaves_unloaded e missing kind kept moved strays = record {
       missing = λ b tells auth. (index, there, missing b (so_far.kept.bytes ∙ tells) auth);
       kind = ungrown (kind_of e) kind;
+      some = omega (arith, there);
       shapes = so_far.shapes;
       kept = kept_then a p q so_far.kept kept;
       moved = moved_less a q _ _ _ _ _ L (L - 96) 0 0 (chunk_count h.chunk_size h.file_size) (moved_then a p q _ _ _ _ _ _ _ _ _ _ so_far.moved moved)
@@ -120,8 +121,8 @@ module _ (C : Cipher) (E : List ℕ → Hashing) (K : List ℕ) (h : Header) (a 
       stopped = elim (cases_lt 0 index) [
         | inl some ↦ inl ((so_far.some some).0, rose (so_far.some some).1 (omega (arith, moved.calls_later)))
         | inr none ↦
-          let z : index ≡ 0 = omega (arith, none) in
-          inr ((so_far.none z).0, omega (arith, z, so_far.moved.calls_later, so_far.moved.calls_most, moved.calls_later, moved.calls_most), (so_far.none z).1)
+            let z : index ≡ 0 = omega (arith, none) in
+            inr ((so_far.none z).0, omega (arith, z, so_far.moved.calls_later, so_far.moved.calls_most, moved.calls_later, moved.calls_most), (so_far.none z).1)
       ];
     }
       where
@@ -179,6 +180,7 @@ module _ (C : Cipher) (E : List ℕ → Hashing) (K : List ℕ) (h : Header) (a 
       leaves_unhashed e why = record {
         missing = λ b tells auth. absurd (other (sym why.0 ∙ auth));
         kind = subst (λ (k : ErrorKind). Ungrown k a r) (sym why.0) (caused_later Hash a q r (quiet_then a p q so_far.quiet quiet_q) why.1);
+        some = omega (arith, there);
         shapes = shapes_then before tree tree' so_far.shapes shapes;
         kept = kept_then a q r (kept_then a p q so_far.kept kept_q) kept_r;
         moved = moved_less a r _ _ _ _ _ L (L - 96) 0 0 (chunk_count h.chunk_size h.file_size) moved_all (omega arith) (omega arith) (omega arith) (omega arith) (omega (arith, there));
@@ -245,6 +247,7 @@ module _ (C : Cipher) (E : List ℕ → Hashing) (K : List ℕ) (h : Header) (a 
           (λ j lt. (all.put b tells x t mid.0 set was mid.1).put j (omega arith) (omega (arith, lt, count)));
       missing = λ b tells. tt;
       kinds = tt;
+      some = tt;
       quiet = quiet_then a p r all.quiet quiet_r;
       shapes = shapes_then before tree tree' all.shapes shapes;
       kept = kept_then a p r all.kept kept_r;
@@ -260,6 +263,7 @@ module _ (C : Cipher) (E : List ℕ → Hashing) (K : List ℕ) (h : Header) (a 
       grown = λ b tells. tt;
       missing = λ b tells auth. absurd (other (sym why.0 ∙ auth));
       kinds = subst (λ (k : ErrorKind). Ungrown k a r) (sym why.0) (caused_later Hash a p r all.quiet why.1);
+      some = λ io. absurd (not_io (sym why.0 ∙ io));
       quiet = tt;
       shapes = shapes_then before tree tree' all.shapes shapes;
       kept = kept_then a p r all.kept kept_r;
@@ -271,6 +275,9 @@ module _ (C : Cipher) (E : List ℕ → Hashing) (K : List ℕ) (h : Header) (a 
       where
         other : Hash ≡ AuthenticationFailed → ⊥
         other same = cc
+
+        not_io : Hash ≡ Io → ⊥
+        not_io same = cc
 
     pub grew_ended : (result : Result (Unit {0}) Error) → OnOk result (Quiet p r) → OnOk result (OfTrees E p.setting tree tree' (λ H t u. Built H (chunk_count h.chunk_size h.file_size) t u))
         → IfErr result (λ e. (kind_of e ≡ Hash) × Caused Hash p r × Rose p.calls r.calls) → ((H : Hashing) → TreeLaws H) → Grew C E K h a r before tree' true result
@@ -284,6 +291,7 @@ module _ (C : Cipher) (E : List ℕ → Hashing) (K : List ℕ) (h : Header) (a 
     grown = λ b tells. tt;
     missing = stop.missing;
     kinds = stop.kind;
+    some = λ _. stop.some;
     quiet = tt;
     shapes = stop.shapes;
     kept = stop.kept;

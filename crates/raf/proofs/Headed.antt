@@ -60,9 +60,6 @@ module _ (C : Cipher) (E : List ℕ → Hashing) (key : List ℕ) (most : Option
   }
 
   module _ (h : Header) (laid : (b : List ℕ) → old.bytes ≡ Some b → LaidOut C b h) (quiet : Quiet old new) where
-
-
-
     -- there is no tree for its hasher
     pub refused_tree : (kind : ErrorKind) → WhyNoTree E old.setting most (chunk_count h.chunk_size h.file_size) kind → NotOpened C E key most old new kind
     refused_tree kind why = record {

@@ -29,7 +29,7 @@ use Rattle.raf.proofs.Chunks.{get_chunk}
 use Rattle.raf.proofs.Needed.{one_missing}
 
 -- chunks that are all there
-all_some : (C : Cipher) (K : List ℕ) (h : Header) (b : List ℕ) (j n : ℕ) → ((i : ℕ) → j ≤ i → i < j + n → (m : List ℕ) × (chunk_at C K h b i ≡ Some m))
+pub all_some : (C : Cipher) (K : List ℕ) (h : Header) (b : List ℕ) (j n : ℕ) → ((i : ℕ) → j ≤ i → i < j + n → (m : List ℕ) × (chunk_at C K h b i ≡ Some m))
     → chunks_from C K h b j n ≡ map (λ m. Some m) (present (chunks_from C K h b j n))
 all_some C K h b j zero there = refl
 all_some C K h b j (suc n) there =
@@ -40,6 +40,10 @@ all_some C K h b j (suc n) there =
     whole : (o : Option (List ℕ)) (m : List ℕ) → o ≡ Some m → o ≡ Some (unwrap_or o [])
     whole (Some x) m is = refl
     whole None m is = cc
+
+pub none_is : (o : Option Tree) → is_some o ≡ false → o ≡ None
+none_is None is = refl
+none_is (Some t) is = cc
 
 no_tree : (o : Option Tree) (t : Tree) → o ≡ None → o ≡ Some t → ⊥
 no_tree None t is other = cc
@@ -58,7 +62,7 @@ shaped_from (Some t) b u s is = (t, refl)
 shaped_from None (Some x) u s is = absurd s
 shaped_from None None u s is = cc
 
-some_tree : (o : Option Tree) → is_some o ≡ true → (t : Tree) × (o ≡ Some t)
+pub some_tree : (o : Option Tree) → is_some o ≡ true → (t : Tree) × (o ≡ Some t)
 some_tree (Some t) is = (t, refl)
 some_tree None is = cc
 
@@ -132,15 +136,15 @@ module _ (C : Cipher) (lawful : IsLawful C) (E : List ℕ → Hashing) (key : Li
         opens_of C lawful key b h (bare.is_file b tells),
         held new tree' b tells (grew.kept.bytes ∙ bare.kept.bytes),
         λ x u set is.
-        let t = shaped_from tree tree' u grew.shapes is in
-        let told = bare.kept.bytes ∙ tells in
-        record {
-          chunks = present (chunks_of C (C.chunk_key key h.id) h b);
-          present = subst (λ (k : List ℕ). chunks_of C k h b ≡ map (λ m. Some m) (present (chunks_of C k h b))) derived
-              (all_some C K h b 0 (chunk_count h.chunk_size h.file_size) (λ i le lt. grew.there b told i (omega (arith, lt))));
-          keeps = subst (λ (k : List ℕ). Rattle.raf_tree.specs.Kept.Keeps (E x) u (Rattle.raf_tree.specs.Tree.leaves (E x) (present (chunks_of C k h b)))) derived
-              (grew.grown b told x t.0 u (sym grew.moved.setting ∙ set) t.1 is);
-        },
+            let t = shaped_from tree tree' u grew.shapes is in
+            let told = bare.kept.bytes ∙ tells in
+            record {
+              chunks = present (chunks_of C (C.chunk_key key h.id) h b);
+              present = subst (λ (k : List ℕ). chunks_of C k h b ≡ map (λ m. Some m) (present (chunks_of C k h b))) derived
+                  (all_some C K h b 0 (chunk_count h.chunk_size h.file_size) (λ i le lt. grew.there b told i (omega (arith, lt))));
+              keeps = subst (λ (k : List ℕ). Rattle.raf_tree.specs.Kept.Keeps (E x) u (Rattle.raf_tree.specs.Tree.leaves (E x) (present (chunks_of C k h b)))) derived
+                  (grew.grown b told x t.0 u (sym grew.moved.setting ∙ set) t.1 is);
+            },
       );
     }
 
@@ -161,8 +165,18 @@ module _ (C : Cipher) (lawful : IsLawful C) (E : List ℕ → Hashing) (key : Li
         why AuthenticationFailed is u b tells =
             let bad = grew.missing b (bare.kept.bytes ∙ tells) is in
             let found : slice_get (chunks_of C K h b) bad.0 ≡ Some None = get_chunk C K h b bad.0 bad.1 ∙ ap (λ (o : Option (List ℕ)). Some o) bad.2 in
-            inr (h, laid b tells, (bare.made.room, inr ((bare.is_file b tells).tagged, hasher,
-            subst (λ (k : List ℕ). none_missing (λ _. true) 0 (chunks_of C k h b) ≡ false) derived (one_missing (λ _. true) 0 bad.0 (chunks_of C K h b) found refl))))
+            inr (
+              h,
+              laid b tells,
+              (
+                bare.made.room,
+                inr (
+                  (bare.is_file b tells).tagged,
+                  hasher,
+                  subst (λ (k : List ℕ). none_missing (λ _. true) 0 (chunks_of C k h b) ≡ false) derived (one_missing (λ _. true) 0 bad.0 (chunks_of C K h b) found refl),
+                ),
+              ),
+            )
         why Rng is u b tells = absurd u
         why (InvalidArgument r) is u b tells = absurd u
         why AlreadyExists is u b tells = absurd u

@@ -110,7 +110,7 @@ module _ (C : Cipher) (lawful : IsLawful C) (E : List ℕ → Hashing) (key : Li
       (λ _. record { io = refl; rng = refl; hash = refl })
       (λ _. inr ([], refl, omega (arith, none)))
       (λ F measures. moved_any a a _ _ _ _ _ (moved_same a a refl))
-      (λ F held. refl) refl refl refl no_rebuild (λ _. refl) (λ is. absurd (no_sync is))
+      (λ F held. refl) refl refl (λ _. refl) (λ both. no_rebuild both.0) (λ _. refl) (λ is. absurd (no_sync is))
 
   module _ (n first stop : ℕ) (n_is : n ≡ min (offset + len) h.file_size - offset) (had : 0 < n) (first_is : first ≡ offset / h.chunk_size) (stop_is : stop ≡ (offset + n - 1) / h.chunk_size + 1) where
     end : offset + n ≡ min (offset + len) h.file_size
@@ -213,8 +213,8 @@ module _ (C : Cipher) (lawful : IsLawful C) (E : List ℕ → Hashing) (key : Li
         (λ _. inr (got, refl, omega (arith, got_long, n_is)))
         (bounded_by a b so_far.moved)
         (λ F held. so_far.strays held.bytes held.tells (omega (arith, held.is_file.length_fits)))
-        so_far.moved.setting (omega (arith, so_far.moved.changes_later, so_far.moved.changes_most)) (omega (arith, so_far.moved.calls_later, so_far.moved.calls_most))
-        no_rebuild (λ _. so_far.kept.durable) (λ is. absurd (no_sync is))
+        so_far.moved.setting (omega (arith, so_far.moved.changes_later, so_far.moved.changes_most)) (λ _. omega (arith, so_far.moved.calls_later, so_far.moved.calls_most))
+        (λ both. no_rebuild both.0) (λ _. so_far.kept.durable) (λ is. absurd (no_sync is))
 
     free : (L : Option ℕ) (chunks : List (Option (List ℕ))) → is_barred (apply L (with_chunks chunks) (Read offset len)).0 ≡ false
     free L chunks = ap (λ (p : Due × File). is_barred p.0) (apply_read L (with_chunks chunks) offset len (none_missing (needed (with_chunks chunks) (Read offset len)) 0 chunks) refl)
@@ -246,8 +246,8 @@ module _ (C : Cipher) (lawful : IsLawful C) (E : List ℕ → Hashing) (key : Li
             (λ calm. absurd (false≢true (sym calm)))
             (bounded_by a b unread.moved)
             (λ F held. unread.strays held.bytes held.tells (omega (arith, held.is_file.length_fits)))
-            unread.moved.setting (omega (arith, unread.moved.changes_later, unread.moved.changes_most)) (omega (arith, unread.moved.calls_later, unread.moved.calls_most))
-            no_rebuild (λ _. unread.kept.durable) (λ is. absurd (no_sync is))
+            unread.moved.setting (omega (arith, unread.moved.changes_later, unread.moved.changes_most)) (λ _. omega (arith, unread.moved.calls_later, unread.moved.calls_most))
+            (λ both. no_rebuild both.0) (λ _. unread.kept.durable) (λ is. absurd (no_sync is))
         go AuthenticationFailed is quiet =
             went_still C E (at a) (at b) (Read offset len) (Refused AuthenticationFailed) refl refl refl refl unmarked unread.kept.bytes unread.kept.left
             (λ F held calm. subst (λ (F : File). IsDue held.bytes (chunks_of C K h held.bytes) a F (Refused AuthenticationFailed)) (sym held.file)
@@ -259,8 +259,8 @@ module _ (C : Cipher) (lawful : IsLawful C) (E : List ℕ → Hashing) (key : Li
             (λ _. inl (refl, needs))
             (bounded_by a b unread.moved)
             (λ F held. unread.strays held.bytes held.tells (omega (arith, held.is_file.length_fits)))
-            unread.moved.setting (omega (arith, unread.moved.changes_later, unread.moved.changes_most)) (omega (arith, unread.moved.calls_later, unread.moved.calls_most))
-            no_rebuild (λ _. unread.kept.durable) (λ is. absurd (no_sync is))
+            unread.moved.setting (omega (arith, unread.moved.changes_later, unread.moved.changes_most)) (λ _. omega (arith, unread.moved.calls_later, unread.moved.calls_most))
+            (λ both. no_rebuild both.0) (λ _. unread.kept.durable) (λ is. absurd (no_sync is))
         go Rng is why = absurd why
         go Hash is why = absurd why
         go (InvalidArgument r) is why = absurd why

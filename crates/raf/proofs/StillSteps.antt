@@ -113,8 +113,8 @@ module _ (C : Cipher) (E : List ℕ → Hashing) (old new : Handle) (c : Command
       → ((F : File) → Holds C old F → new.outside.strays ≡ old.outside.strays)
       → new.outside.setting ≡ old.outside.setting
       → new.outside.changes ≡ old.outside.changes
-      → new.outside.calls ≡ old.outside.calls
-      → (c ≡ command.Rebuild → ⊥)
+      → (may_mark c ≡ true ⊎ ((refuses reply ≡ true) × (is_fault reply ≡ false)) → new.outside.calls ≡ old.outside.calls)
+      → ((c ≡ command.Rebuild) × (reply ≡ Done) → ⊥)
       → (may_settle c ≡ false → new.outside.durable ≡ old.outside.durable)
       → (c ≡ command.Sync → reply ≡ Done → Told (SyncedTo old.outside.bytes) old.outside.durable new.outside.durable)
       → Went C E old new c reply
@@ -129,10 +129,10 @@ module _ (C : Cipher) (E : List ℕ → Hashing) (old new : Handle) (c : Command
       authentic = (due F held calm).1;
       grown = λ was. elim was [
         | inl grown ↦ subst (λ (G : File). WithTree E new (Grown G)) (sym (still_file (limit_of old) F c still)) (λ s t is kept. grown s t (sym setting ∙ is) (sym tree ∙ kept))
-        | inr rebuilt ↦ absurd (other rebuilt.0)
+        | inr rebuilt ↦ absurd (other rebuilt)
       ];
       unmarked = unmarked;
-      still = λ refused. (changes, calls);
+      still = λ refused. (changes, calls (inr (refused, calm)));
     };
     cut = λ F held fault. record {
       left = ([], omega arith, subst (λ (o : Option (List ℕ)). Takes old.outside.left [] o) (sym left) (takes_none old.outside.left));
@@ -145,7 +145,7 @@ module _ (C : Cipher) (E : List ℕ → Hashing) (old new : Handle) (c : Command
     shaped = shaped;
     bounded = bounded;
     strays = strays;
-    marked = record { sets = λ may refused began. absurd (elim began [ inl more ↦ omega (arith, more, changes) | inr more ↦ omega (arith, more, calls) ]); cause = λ set. absurd (false≢true (sym unmarked ∙ set)) };
+    marked = record { sets = λ may refused began. absurd (elim began [ inl more ↦ omega (arith, more, changes) | inr more ↦ omega (arith, more, calls (inl may)) ]); cause = λ set. absurd (false≢true (sym unmarked ∙ set)) };
     stays = record {
       key = key;
       limit = ap (option_map (λ (t : Tree). t.max_chunks)) tree;

@@ -61,8 +61,8 @@ module _ (C : Cipher) (E : List ℕ → Hashing) (old new : Handle) (key : new.k
       (λ F held. strays)
       moved.setting
       (omega (arith, moved.changes_later, moved.changes_most))
-      (omega (arith, moved.calls_later, moved.calls_most))
-      other
+      (λ _. omega (arith, moved.calls_later, moved.calls_most))
+      (λ both. other both.0)
       (λ is. absurd (false≢true (sym is)))
       (λ _. synced)
 

@@ -1,5 +1,5 @@
 -- How a change goes on, call by call (this project's own).
-use Rattle.std.specs.Prelude.{◌≡◌, ℕ, ◌+◌, ◌-◌, ◌*◌, ◌<◌, ◌≤◌, max, if◌then◌else◌, nat_lt, nat_eq, Bool, true, List, length, take, drop, Option, Some, None, Result, OnOk, OnErr, IfErr, ⊤}
+use Rattle.std.specs.Prelude.{◌≡◌, ℕ, ◌+◌, ◌-◌, ◌*◌, ◌<◌, ◌≤◌, ◌⊎◌, max, if◌then◌else◌, nat_lt, nat_eq, Bool, true, List, length, take, drop, Option, Some, None, Result, OnOk, OnErr, IfErr, ⊤}
 use Rattle.counts.specs.Counts.{Rose}
 use Rattle.raf_io.specs.Storage.{Torn, spliced}
 use Rattle.raf_io.specs.Source.{Takes, TakesAtMost, IsShort}
@@ -76,15 +76,11 @@ Unprepared C K h p len AuthenticationFailed old new =
     Quiet old new × (new.left ≡ old.left) × ((b : List ℕ) → old.bytes ≡ Some b → Misses C K h p len b)
 Unprepared C K h p len _ old new = ⊥
 
--- a chunk that is needed was opened: it stands in a buffer behind the nonce
-abbrev pub Stands : Cipher → List ℕ → Header → Plan → ℕ → ℕ → List ℕ → List ℕ → Type 0
-Stands C K h p len index b buf =
-    0 < kept_len h.chunk_size p len index → chunk_at C K h b index ≡ Some (take (chunk_len h.chunk_size p.before index) (drop C.nonce_len buf))
-
--- a chunk was opened if it is needed
-pub record Readies (C : Cipher) (K : List ℕ) (h : Header) (p : Plan) (len index asked : ℕ) (old new : Outside) (after : List ℕ) (result : Result (Unit {0}) Error) : Type 0 where
-  pub stands : (b : List ℕ) → old.bytes ≡ Some b → OnOk result (Stands C K h p len index b after)
-  pub missing : (b : List ℕ) → old.bytes ≡ Some b → IfErr result (λ e. kind_of e ≡ AuthenticationFailed → (0 < kept_len h.chunk_size p len index) × (chunk_at C K h b index ≡ None))
+-- a chunk was opened if bytes of it are wanted: then it stands in a buffer behind the nonce
+pub record Readies (C : Cipher) (K : List ℕ) (h : Header) (p : Plan) (index wanted asked : ℕ) (old new : Outside) (after : List ℕ) (result : Result (Unit {0}) Error) : Type 0 where
+  pub stands : (b : List ℕ) → old.bytes ≡ Some b
+      → OnOk result (0 < wanted → chunk_at C K h b index ≡ Some (take (chunk_len h.chunk_size p.before index) (drop C.nonce_len after)))
+  pub missing : (b : List ℕ) → old.bytes ≡ Some b → IfErr result (λ e. kind_of e ≡ AuthenticationFailed → (0 < wanted) × (chunk_at C K h b index ≡ None))
   pub kinds : IfErr result (λ e. Unopened (kind_of e) old new)
   pub needed : OnErr result (1 ≤ asked)
   pub quiet : OnOk result (Quiet old new)
@@ -114,6 +110,9 @@ pub record Prepares (C : Cipher) (K : List ℕ) (h : Header) (p : Plan) (len : �
   pub untaken : p.end ≤ p.first → new.left ≡ old.left
   pub failed : IfErr result (λ e. Unprepared C K h p len (kind_of e) old new)
   pub some : OnErr result (p.first < p.end)
+  pub reads : IfErr result (λ e. kind_of e ≡ AuthenticationFailed → (i : ℕ) × (p.first ≤ i) × (i < p.end) × (0 < kept_len h.chunk_size p len i))
+  pub early : IfErr result (λ e. (kind_of e ≡ AuthenticationFailed) ⊎ (kind_of e ≡ Io)
+      → (new.left ≡ old.left) × Moved old new (layout_len (shape_of C h) p.before) (needed_records (shape_of C h) p len) 0 0 0)
   pub left : OnErr result (TakesAtMost old.left C.nonce_len new.left)
   pub bytes : new.bytes ≡ old.bytes
   pub durable : new.durable ≡ old.durable
@@ -164,6 +163,7 @@ pub record Stores (C : Cipher) (E : List ℕ → Hashing) (K : List ℕ) (h : He
   pub same : SameTree tree tree'
   pub left : OnErr result (TakesAtMost old.left ((p.end - 1 - p.first) * C.nonce_len) new.left)
   pub failed : IfErr result (λ e. Hindered ((p.end - 1 - p.first) * C.nonce_len) (kind_of e) old new tree')
+  pub some : OnErr result (p.first < p.end)
   pub began : OnErr result (MayHaveBegun old new)
   pub quiet : OnOk result (Quiet old new)
   pub moved : Moved old new (layout_len (shape_of C h) p.size) (new_records (shape_of C h) p) ((p.end - 1 - p.first) * C.nonce_len) (p.end - p.first) (p.end - p.first)
@@ -191,6 +191,7 @@ pub record Commits (C : Cipher) (E : List ℕ → Hashing) (key K : List ℕ) (h
   pub same : SameTree tree tree'
   pub left : OnErr result (TakesAtMost old.left ((p.end - 1 - p.first) * C.nonce_len) new.left)
   pub failed : IfErr result (λ e. Hindered ((p.end - 1 - p.first) * C.nonce_len) (kind_of e) old new tree')
+  pub asks : IfErr result (λ e. kind_of e ≡ Rng → p.first < p.end)
   pub began : OnErr result (MayHaveBegun old new)
   pub quiet : OnOk result (Quiet old new)
   pub moved : Moved old new (layout_len (shape_of C h) p.size) (new_records (shape_of C h) p + (if nat_eq p.size p.before then 0 else 96)) ((p.end - 1 - p.first) * C.nonce_len) (changes_of p) (new.calls - old.calls)

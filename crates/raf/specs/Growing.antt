@@ -40,6 +40,7 @@ pub record LeavesSoFar (C : Cipher) (E : List ℕ → Hashing) (chunk_key : List
 pub record LeavesStopped (C : Cipher) (chunk_key : List ℕ) (h : Header) (old now : Outside) (before tree : Option Tree) (begun : Bool) (e : Error) : Type 0 where
   pub missing : (b : List ℕ) → old.bytes ≡ Some b → kind_of e ≡ AuthenticationFailed → (i : ℕ) × (i < chunk_count h.chunk_size h.file_size) × (chunk_at C chunk_key h b i ≡ None)
   pub kind : Ungrown (kind_of e) old now
+  pub some : 1 ≤ chunk_count h.chunk_size h.file_size
   pub shapes : SameTree before tree
   pub kept : Kept old now
   pub moved : Moved old now (layout_len (shape_of C h) h.file_size) (layout_len (shape_of C h) h.file_size - 96) 0 0 (chunk_count h.chunk_size h.file_size)
@@ -53,6 +54,7 @@ pub record Grew (C : Cipher) (E : List ℕ → Hashing) (chunk_key : List ℕ) (
   pub missing : (b : List ℕ) → old.bytes ≡ Some b
       → IfErr result (λ e. kind_of e ≡ AuthenticationFailed → (i : ℕ) × (i < chunk_count h.chunk_size h.file_size) × (chunk_at C chunk_key h b i ≡ None))
   pub kinds : IfErr result (λ e. Ungrown (kind_of e) old new)
+  pub some : IfErr result (λ e. kind_of e ≡ Io → 1 ≤ chunk_count h.chunk_size h.file_size)
   pub quiet : OnOk result (Quiet old new)
   pub shapes : SameTree before tree
   pub kept : Kept old new

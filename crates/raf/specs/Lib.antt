@@ -17,3 +17,4 @@ pub mod Carry
 pub mod Session
 pub mod Ran
 pub mod Growing
+pub mod Verifying

@@ -1,5 +1,6 @@
-//! Changes of a file: what its calls need of the engine. (The bodies are a stand-in.)
+//! Changes of a file: a write and a truncation, each by its plan.
 ghost use Rattle.std.specs.Prelude.{◌≡◌, ◌+◌, List, ℕ, length, false, IfErr, OnErr};
+ghost use Rattle.std.specs.Option.{option_map};
 ghost use Rattle.raf_format.specs.Cipher.{cipher_of};
 ghost use Rattle.raf.specs.Handle.{handle_of, Paired};
 ghost use Rattle.raf.specs.Stepped.{Went, write_reply, done_reply};
@@ -8,9 +9,20 @@ use crate::carrying::change;
 use crate::command::Command;
 use crate::opening::OpenFile;
 use crate::outside::Parts;
+use crate::planning::{plan_truncate, plan_write};
 use raf_format::Algorithm;
 use raf_io::{Error, RafIo, RafRng};
-use raf_tree::MerkleHasher;
+use raf_tree::{MerkleHasher, Tree, tree_laws};
+
+// The most chunks that a file with this tree may have.
+fn chunk_limit(tree: &Option<Tree>) -> Option<u64>
+    ensures { result ≡ option_map (λ t. t.max_chunks) tree.now }
+{
+    match tree {
+        Some(tree) => Some(tree.max_chunks()),
+        None => None,
+    }
+}
 
 /// Puts bytes at an offset.
 pub fn write_bytes<A: Algorithm, I: RafIo, R: RafRng, H: MerkleHasher>(
@@ -25,7 +37,18 @@ pub fn write_bytes<A: Algorithm, I: RafIo, R: RafRng, H: MerkleHasher>(
         (handle_of parts.new (A.key_list file.new.key) file.new.header file.new.tree file.new.broken) (Command.Write offset buf.now) (write_reply result) }
     ensures paired { Paired H.hashing parts.new.setting file.new.tree }
 {
-    Ok(buf.len())
+    if buf.is_empty() {
+        return Ok(0);
+    }
+    tree_laws();
+    let limit = chunk_limit(&file.tree);
+    match plan_write::<A>(&file.header, offset, buf, limit) {
+        Some(plan) => match change::<A, I, R, H>(parts, file, &plan, buf) {
+            Ok(()) => Ok(buf.len()),
+            Err(e) => Err(e),
+        },
+        None => Err(Error::Overflow),
+    }
 }
 
 /// Makes the file this long.
@@ -40,5 +63,13 @@ pub fn truncate_to<A: Algorithm, I: RafIo, R: RafRng, H: MerkleHasher>(
         (handle_of parts.new (A.key_list file.new.key) file.new.header file.new.tree file.new.broken) (Command.Truncate size) (done_reply result) }
     ensures paired { Paired H.hashing parts.new.setting file.new.tree }
 {
-    Ok(())
+    if size == file.header.file_size {
+        return Ok(());
+    }
+    tree_laws();
+    let limit = chunk_limit(&file.tree);
+    match plan_truncate::<A>(&file.header, size, limit) {
+        Some(plan) => change::<A, I, R, H>(parts, file, &plan, b""),
+        None => Err(Error::Overflow),
+    }
 }

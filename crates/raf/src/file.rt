@@ -1,5 +1,5 @@
 //! An open file, and its calls.
-ghost use Rattle.std.specs.Prelude.{◌≡◌, ◌+◌, ◌<◌, ◌≤◌, List, ℕ, length, take, drop, Some, Option, IfOk, IfErr, OnOk, OnErr, IsErr, true, false};
+ghost use Rattle.std.specs.Prelude.{◌≡◌, ◌+◌, ◌<◌, ◌≤◌, List, ℕ, length, take, drop, Some, Option, IfOk, IfErr, OnOk, OnErr, IsErrAnd, true, false};
 ghost use Rattle.std.specs.Option.{option_map};
 ghost use Rattle.raf_format.specs.Cipher.{cipher_of};
 ghost use Rattle.raf_format.specs.File.{File};
@@ -13,6 +13,7 @@ use crate::command::Command;
 use crate::opening::OpenFile;
 use crate::outside::Parts;
 use crate::reading::read_bytes;
+use crate::verifying::{commit_file, rebuild_file, verify_file};
 use raf_format::Algorithm;
 use raf_io::{Error, ErrorKind, RafIo, RafRng, Reason};
 use raf_tree::MerkleHasher;
@@ -112,32 +113,42 @@ impl<A: Algorithm, I: RafIo, R: RafRng, H: MerkleHasher> Raf<A, I, R, H> {
         self.parts.sync()
     }
 
-    /// Makes the tree anew from the chunks.
+    /// Makes the tree anew from the chunks, once each was seen to open. Refused by `MerkleNotEnabled` without a hasher, by
+    /// `AuthenticationFailed` where a chunk doesn't open, by `Io`, and by `Hash`; once a hash was asked, a refusal marks the file.
     pub fn merkle_rebuild(&mut self) -> Result<(), Error>
         ensures stepped { Stepped (cipher_of A.variant) H.hashing self.old self.new Command.Rebuild (done_reply result) }
     {
-        Err(Error::Broken)
+        if self.file.broken {
+            return Err(Error::Broken);
+        }
+        rebuild_file::<A, I, R, H>(&mut self.parts, &mut self.file)
     }
 
-    /// The first chunk that doesn't open or whose leaf differs from the tree's.
+    /// The first chunk that doesn't open or whose leaf differs from the tree's, or None where there is none. Refused by
+    /// `MerkleNotEnabled` without a hasher, by `Io` and by `Hash`.
     pub fn merkle_verify(&mut self) -> Result<Option<u64>, Error>
         ensures stepped { Stepped (cipher_of A.variant) H.hashing self.old self.new Command.Verify (verify_reply result) }
     {
-        Err(Error::Broken)
+        if self.file.broken {
+            return Err(Error::Broken);
+        }
+        verify_file::<A, I, R, H>(&mut self.parts, &mut self.file)
     }
 
-    /// The tree's commitment, in front of the buffer. A buffer that is shorter than a hash is refused.
+    /// The tree's commitment, of `hash_len` bytes, in front of the buffer; what stands behind it stays. Refused by `MerkleNotEnabled`
+    /// without a hasher, by `InvalidArgument` where the buffer is shorter, and by `Hash`.
     pub fn merkle_commitment(&mut self, out: &mut [u8]) -> Result<(), Error>
         ensures stepped { hash_len_of H.hashing self.old.outside.setting ≤ length out.old →
             Stepped (cipher_of A.variant) H.hashing self.old self.new Command.Commitment (commitment_reply (take (hash_len_of H.hashing self.old.outside.setting) out.new) result) }
-        ensures broken { self.old.broken ≡ true → IfErr result (λ e. kind_of e ≡ ErrorKind.Broken) × IsErr result × (self.new ≡ self.old) }
+        ensures broken { self.old.broken ≡ true → IsErrAnd result (λ e. kind_of e ≡ ErrorKind.Broken) × (self.new ≡ self.old) }
         ensures short { self.old.broken ≡ false → length out.old < hash_len_of H.hashing self.old.outside.setting →
-            IfErr result (λ e. kind_of e ≡ ErrorKind.InvalidArgument Reason.CommitmentBuffer) × IsErr result × (self.new ≡ self.old) }
-        ensures rest { OnOk result (drop (hash_len_of H.hashing self.old.outside.setting) out.new ≡ drop (hash_len_of H.hashing self.old.outside.setting) out.old) }
-        ensures kept { OnErr result (drop (hash_len_of H.hashing self.old.outside.setting) out.new ≡ drop (hash_len_of H.hashing self.old.outside.setting) out.old) }
+            IsErrAnd result (λ e. kind_of e ≡ ErrorKind.InvalidArgument Reason.CommitmentBuffer) × (self.new ≡ self.old) }
+        ensures rest { drop (hash_len_of H.hashing self.old.outside.setting) out.new ≡ drop (hash_len_of H.hashing self.old.outside.setting) out.old }
     {
-        let _ = out;
-        Err(Error::Broken)
+        if self.file.broken {
+            return Err(Error::Broken);
+        }
+        commit_file::<A, I, R, H>(&mut self.parts, &self.file, out)
     }
 
     /// How long a hash is, or None exactly where there is no hasher.

@@ -1,8 +1,8 @@
 //! The tree of a file: how it is made for a hasher, and made anew from the file's chunks.
-ghost use Rattle.std.specs.Prelude.{◌≡◌, ◌+◌, ◌-◌, ◌*◌, ◌^◌, ◌<◌, ◌≤◌, List, ℕ, length, Some, is_some, IfOk, IfErr, OnOk, OnErr, true, false};
+ghost use Rattle.std.specs.Prelude.{◌≡◌, ◌+◌, ◌-◌, ◌*◌, ◌^◌, ◌<◌, ◌≤◌, List, ℕ, length, Some, is_some, false, IfOk, IfErr, OnOk, OnErr, true};
 ghost use Rattle.std.specs.Option.{option_map};
 ghost use Rattle.counts.specs.Counts.{Rose};
-ghost use Rattle.raf_tree.specs.Kept.{Kept, tree_height};
+ghost use Rattle.raf_tree.specs.Kept.{Kept, kept, tree_height};
 ghost use Rattle.raf_tree.specs.Steps.{Built};
 ghost use Rattle.raf_format.specs.Cipher.{cipher_of};
 ghost use Rattle.raf_format.specs.File.{chunk_count, chunk_len};
@@ -71,6 +71,54 @@ impl<I: RafIo, R: RafRng, H: MerkleHasher> Parts<I, R, H> {
             }
         }
         Ok(())
+    }
+}
+
+impl<I: RafIo, R: RafRng, H: MerkleHasher> Parts<I, R, H> {
+    /// Whether a chunk's leaf is the one that is kept at its index. There is a hasher.
+    pub fn is_leaf(&mut self, tree: &Tree, index: u64, chunk: &[u8]) -> Result<bool, Error>
+        requires paired { Paired H.hashing self.old.setting (Some tree.now) }
+        requires index { index < tree.now.max_chunks }
+        requires chunk { length chunk.now ≤ 2 ^ 60 }
+        ensures same { IfOk result (λ r. (x : List ℕ) → self.old.setting ≡ Some x
+            → (r ≡ true → (H.hashing x).leaf chunk.now index ≡ kept tree.now 0 index) × (r ≡ false → (H.hashing x).leaf chunk.now index ≡ kept tree.now 0 index → ⊥)) }
+        ensures kept { Kept_ self.old self.new }
+        ensures failed { IfErr result (λ e. (kind_of e ≡ ErrorKind.Hash) × Caused ErrorKind.Hash self.old self.new) }
+        ensures quiet { OnOk result (Quiet self.old self.new) }
+        ensures moved { Moved self.old self.new 0 0 0 0 1 }
+        ensures strays { self.new.strays ≡ self.old.strays }
+    {
+        let Some(hasher) = &mut self.hasher else {
+            return Ok(false);
+        };
+        let kept = tree.leaf(index);
+        let mut room = [0u8; 64];
+        let (leaf, _) = room.split_at_mut(kept.len());
+        match hasher.hash_leaf(leaf, chunk, index) {
+            Ok(()) => Ok(leaf[..] == kept[..]),
+            Err(_) => Err(Error::Hash),
+        }
+    }
+
+    /// Puts the commitment to a tree's root, a file's id and its size into `out`, which has a hash's length. There is a hasher.
+    pub fn commit(&mut self, tree: &Tree, out: &mut [u8], id: &[u8], size: u64) -> Result<(), Error>
+        requires paired { Paired H.hashing self.old.setting (Some tree.now) }
+        requires out { length out.old ≡ tree.now.hash_len }
+        requires id { length id.now ≤ 2 ^ 60 }
+        ensures commitment { OnOk result ((x : List ℕ) → self.old.setting ≡ Some x → out.new ≡ (H.hashing x).commitment (kept tree.now (tree_height tree.now) 0) id.now size) }
+        ensures kept { Kept_ self.old self.new }
+        ensures failed { IfErr result (λ e. (kind_of e ≡ ErrorKind.Hash) × Caused ErrorKind.Hash self.old self.new) }
+        ensures quiet { OnOk result (Quiet self.old self.new) }
+        ensures moved { Moved self.old self.new 0 0 0 0 1 }
+        ensures strays { self.new.strays ≡ self.old.strays }
+    {
+        let Some(hasher) = &mut self.hasher else {
+            return Ok(());
+        };
+        match hasher.hash_commitment(out, tree.root(), id, size) {
+            Ok(()) => Ok(()),
+            Err(_) => Err(Error::Hash),
+        }
     }
 }
 

@@ -5,8 +5,8 @@ mod builder;
 mod carrying;
 mod changing;
 mod command;
-mod creating;
 mod committing;
+mod creating;
 mod data;
 mod file;
 mod growing;
@@ -19,6 +19,7 @@ mod planning;
 mod preparing;
 mod reading;
 mod serving;
+mod verifying;
 mod staging;
 mod storing;
 

@@ -200,6 +200,7 @@ impl<I: RafIo, R: RafRng, H: MerkleHasher> Parts<I, R, H> {
         ensures failed { IfErr result (λ e. (kind_of e ≡ ErrorKind.Hash) × Caused ErrorKind.Hash self.old self.new) }
         ensures quiet { OnOk result (Quiet self.old self.new) }
         ensures moved { Moved self.old self.new 0 0 0 0 (self.new.calls - self.old.calls) }
+        ensures began { OnErr result (Rose self.old.calls self.new.calls) }
         ensures calls { (t : Kept) → tree.old ≡ Some t → UpdateCalls count first end (tree_height t) self.old.calls self.new.calls result }
         ensures none { tree.old ≡ None → (self.new.calls ≡ self.old.calls) }
         ensures strays { self.new.strays ≡ self.old.strays }

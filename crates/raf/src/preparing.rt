@@ -4,7 +4,7 @@ ghost use Rattle.raf_format.specs.Cipher.{cipher_of};
 ghost use Rattle.raf_format.specs.File.{shape_of};
 ghost use Rattle.raf_format.specs.Version.{tag_len_of};
 ghost use Rattle.raf.specs.Loaded.{Sound};
-ghost use Rattle.raf.specs.Plan.{Planned};
+ghost use Rattle.raf.specs.Plan.{Planned, kept_len};
 ghost use Rattle.raf.specs.Put.{needed_record};
 ghost use Rattle.raf.specs.Carry.{Readies, Prepares};
 
@@ -32,7 +32,7 @@ fn load_needed<A: Algorithm, I: RafIo, R: RafRng, H: MerkleHasher>(
     requires size { plan.now.before ≡ header.now.file_size }
     requires touched { index < plan.now.end }
     requires room { length buf.old ≡ (cipher_of A.variant).nonce_len + header.now.chunk_size + tag_len_of header.now.version }
-    ensures { Readies (cipher_of A.variant) (A.key_list chunk_key.now) header.now plan.now len index (needed_record (shape_of (cipher_of A.variant) header.now) plan.now len index) parts.old parts.new buf.new result }
+    ensures { Readies (cipher_of A.variant) (A.key_list chunk_key.now) header.now plan.now index (kept_len header.now.chunk_size plan.now len index) (needed_record (shape_of (cipher_of A.variant) header.now) plan.now len index) parts.old parts.new buf.new result }
 {
     if kept_of(header, plan, len, index) == 0 {
         return Ok(());
@@ -54,7 +54,7 @@ fn load_first<A: Algorithm, I: RafIo, R: RafRng, H: MerkleHasher>(
     requires size { plan.now.before ≡ header.now.file_size }
     requires some { plan.now.first < plan.now.end }
     requires room { length buf.old ≡ (cipher_of A.variant).nonce_len + header.now.chunk_size + tag_len_of header.now.version }
-    ensures { Readies (cipher_of A.variant) (A.key_list chunk_key.now) header.now plan.now len (if nat_lt (plan.now.first + 1) plan.now.end then plan.now.first else plan.now.end)
+    ensures { Readies (cipher_of A.variant) (A.key_list chunk_key.now) header.now plan.now plan.now.first (if nat_lt (plan.now.first + 1) plan.now.end then kept_len header.now.chunk_size plan.now len plan.now.first else 0)
         (if nat_lt (plan.now.first + 1) plan.now.end then needed_record (shape_of (cipher_of A.variant) header.now) plan.now len plan.now.first else 0) parts.old parts.new buf.new result }
 {
     if plan.first + 1 == plan.end {

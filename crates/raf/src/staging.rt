@@ -82,13 +82,7 @@ fn stage_chunk(chunk: &mut [u8], kept: usize, start: u64, offset: u64, bytes: &[
 }
 
 /// Puts a touched chunk's new bytes together in its record's place. What is kept of the old ones stands behind the nonce.
-pub fn stage<A: Algorithm>(
-    header: &Header,
-    plan: &Plan,
-    bytes: &[u8],
-    index: u64,
-    place: &mut [u8],
-)
+pub fn stage<A: Algorithm>(header: &Header, plan: &Plan, bytes: &[u8], index: u64, place: &mut [u8])
     requires planned { Planned (shape_of (cipher_of A.variant) header.now) plan.now (length bytes.now) }
     requires touched { index < plan.now.end }
     requires room { length place.old ≡ record_len (shape_of (cipher_of A.variant) header.now) plan.now.size index }

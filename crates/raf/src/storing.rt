@@ -175,10 +175,14 @@ fn store_some<A: Algorithm, I: RafIo, R: RafRng, H: MerkleHasher>(
     ensures { Stores (cipher_of A.variant) H.hashing (A.key_list chunk_key.now) header.now plan.now bytes.now (kept_in (cipher_of A.variant) header.now plan.now (length bytes.now) first.old second.old)
         (take (cipher_of A.variant).nonce_len (buffer_of plan.now plan.now.first first.old second.old)) parts.old parts.new tree.old tree.new result }
 {
-    store::<A, I, R, H>(parts, tree, chunk_key, header, plan, bytes, plan.first, first, second)?;
+    store::<A, I, R, H>(
+        parts, tree, chunk_key, header, plan, bytes, plan.first, first, second,
+    )?;
     for index in plan.first + 1..plan.end {
         draw::<A, I, R, H>(parts, plan, index, first, second)?;
-        store::<A, I, R, H>(parts, tree, chunk_key, header, plan, bytes, index, first, second)?;
+        store::<A, I, R, H>(
+            parts, tree, chunk_key, header, plan, bytes, index, first, second,
+        )?;
     }
     Ok(())
 }

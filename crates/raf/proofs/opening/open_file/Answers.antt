@@ -9,12 +9,8 @@ use Rattle.raf.specs.Opening.{NotOpened, Opened, OpenedBare}
 use Rattle.raf_io.specs.Kinds.{kind_of}
 use Rattle.raf_io.specs.declared.errors.Error.{Error}
 use Rattle.raf.proofs.HandedOn.{handed_on}
-use Rattle.raf.proofs.Openings.{opened_plain, opened_grown, refused_grow}
+use Rattle.raf.proofs.Openings.{none_is, opened_plain, opened_grown, refused_grow}
 use Rattle.raf.proofs.opening.open_file.Goals as goal
-
-none_is : (o : Option Tree) → is_some o ≡ false → o ≡ None
-none_is None is = refl
-none_is (Some t) is = cc
 
 pub returns-then-is_none-clause-opened : goal.returns-then-is_none-clause-opened
 returns-then-is_none-clause-opened g c =

@@ -1,13 +1,9 @@
-use Rattle.std.proofs.Common.{rules, ◌≡◌, ◌+◌, ◌-◌, ◌<◌, ◌≤◌, if◌then◌else◌, nat_lt, length, ℕ, ◌*◌, ◌/◌, ◌%◌, Bool, true, false, nat_eq, List, [], ◌∷◌, ◌++◌, slice_index_or, slice_set, bit_and, bit_or, Fits, w8, w32, w64, Bor, MutBor}
+use Rattle.std.proofs.Common.{arith}
 use Rattle.raf_format.specs.Cipher.{cipher_of}
-use Rattle.raf_format.specs.File.{shape_of}
-use Rattle.raf_format.specs.Version.{tag_len_of}
-use Rattle.raf.specs.Loaded.{Sound}
-use Rattle.raf.specs.Plan.{Planned}
-use Rattle.raf.specs.Put.{needed_record}
-use Rattle.raf.specs.Carry.{Readies, Prepares}
+use Rattle.raf.proofs.Prepared.{readies_loaded}
 use Rattle.raf.proofs.preparing.load_needed.Goals as goal
 
--- src/preparing.rt:21:1
 pub returns : goal.returns
-returns g c = ?
+returns g c =
+    readies_loaded (cipher_of g.A.Algorithm.variant) (g.A.Algorithm.key_list c.args.chunk_key.now) c.args.header.now c.args.plan.now c.args.len c.requires.planned c.requires.size c.load.result c.args.index c.args.parts.now c.load.new.parts c.load.new.buf
+    (omega (arith, c.kept_of.ensures, c.if-kept_of-eq0.false)) c.load.ensures

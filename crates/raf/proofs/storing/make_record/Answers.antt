@@ -1,8 +1,6 @@
-use Rattle.std.proofs.Common.{◌≡◌, ℕ, ◌+◌, ◌-◌, List, length, take, drop, sym, ◌∙◌, ap, subst, arith}
+use Rattle.std.proofs.Common.{◌≡◌, ℕ, ◌+◌, ◌-◌, List, take, drop, ◌∙◌, ap, subst, arith}
 use Rattle.raf_format.specs.Cipher.{cipher_of}
-use Rattle.raf_format.specs.File.{shape_of, chunk_len}
-use Rattle.raf.specs.Plan.{kept_len}
-use Rattle.raf.specs.Put.{put_chunk}
+use Rattle.raf_format.specs.File.{chunk_len}
 use Rattle.raf.specs.Carry.{OfTrees, Leafed}
 use Rattle.raf.proofs.storing.make_record.Goals as goal
 

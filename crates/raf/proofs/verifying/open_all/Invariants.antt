@@ -1,0 +1,10 @@
+use Rattle.std.proofs.Common.{◌≡◌, length}
+use Rattle.raf_format.specs.Cipher.{cipher_of}
+use Rattle.raf.specs.Verifying.{ThereSoFar}
+use Rattle.raf.proofs.verifying.open_all.Given as goal
+
+abbrev pub invariant-loop-index : goal.invariant-loop-index
+invariant-loop-index g l = record {
+  buf : length l.buf ≡ length l.fn.buf;
+  so_far : ThereSoFar (cipher_of g.A.Algorithm.variant) (g.A.Algorithm.key_list l.fn.chunk_key) l.fn.header l.index l.fn.parts l.parts;
+}
