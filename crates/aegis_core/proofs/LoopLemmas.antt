@@ -1,7 +1,7 @@
 -- The steps and the ends of the loops over whole blocks.
 use Rattle.std.proofs.Common.{◌≡◌, ℕ, ◌+◌, ◌-◌, ◌*◌, ◌/◌, ◌%◌, ◌<◌, ◌≤◌, List, [], ◌++◌, length, take, drop, replicate, refl, sym, ap, ◌∙◌, arith, length-append, length-drop, subst}
 use Rattle.std.specs.Prelude.{fold}
-use Rattle.std.proofs.lemmas.List.{take-append-drop, take_rest, take_at, drop_at, length-take-le, append-nil, drop_all, take-replicate, drop-drop}
+use Rattle.std.proofs.lemmas.List.{take-append-drop, append_assoc, take_rest, take_at, drop_at, length-take-le, append-nil, drop_all, take-replicate, drop-drop}
 use Rattle.std.proofs.Math.Seq.{take-append-add, take-add}
 use Rattle.std.proofs.Math.Nat.{div-add-mod', mul-le-mul_right}
 use borrow.Rule.Slice.PartMut.{put_mid}
@@ -174,6 +174,121 @@ decrypt_end c d s t u old mc b ys n a k pos ed en fits et text rest eb ey eu ea 
     ∙ sym (absorbed_is c s m2 n pos en2) in
     let P : List ℕ → Type 0 = λ v. (old ≡ cipher_text c s v) × (u ≡ absorbed c s v) in
     subst P same (sym whole, last)
+
+-- ---- from one place into another
+
+-- the front grows by what is put behind it
+grown : (out ys : List ℕ) (n r : ℕ) → n * r + r ≤ length out → length ys ≡ r
+    → take ((n + 1) * r) (put_mid (n * r) r out ys) ≡ take (n * r) out ++ ys
+grown out ys n r fits ly =
+    let head : List ℕ = take (n * r) out in
+    let x : List ℕ = drop r (drop (n * r) out) in
+    let lh : length head ≡ n * r = length-take-le (n * r) out (omega arith) in
+    let e : (n + 1) * r ≡ length head + r = omega arith in
+    ap (λ (j : ℕ). take j (head ++ (ys ++ x))) e ∙ take-append-add head (ys ++ x) r ∙ ap (λ (v : List ℕ). head ++ v) (take_at ys x r ly)
+
+pub encrypt_into_step : (c d : Family) (s t : State) (m out ys : List ℕ) (n rate k : ℕ) → d ≡ c → rate ≡ c.rate → k ≡ rate → n * rate + rate ≤ length m → length out ≡ length m
+    → t ≡ state_after c s m n → take (n * c.rate) out ≡ text_of c s m n → ys ≡ xor_bytes (take k (drop (n * rate) m)) (d.keystream t)
+    → take ((n + 1) * c.rate) (put_mid (n * rate) k out ys) ≡ text_of c s m (n + 1)
+encrypt_into_step c d s t m out ys n rate k ed er ek fits lo et text ey =
+    let kr : k ≡ c.rate = ek ∙ er in
+    let fits2 : n * c.rate + c.rate ≤ length m = let P : ℕ → Type 0 = λ j. n * j + j ≤ length m in subst P er fits in
+    let b : List ℕ = block_at c.rate m n in
+    let lb : length b ≡ c.rate = length-take-le c.rate (drop (n * c.rate) m) (omega (arith, length-drop (n * c.rate) m)) in
+    let ey2 : ys ≡ xor_bytes b (c.keystream (state_after c s m n)) =
+    ey ∙ ap (λ (v : Family). xor_bytes (take k (drop (n * rate) m)) (v.keystream t)) ed
+    ∙ ap (λ (v : State). xor_bytes (take k (drop (n * rate) m)) (c.keystream v)) et
+    ∙ ap (λ (j : ℕ). xor_bytes (take j (drop (n * rate) m)) (c.keystream (state_after c s m n))) kr
+    ∙ ap (λ (j : ℕ). xor_bytes (take c.rate (drop (n * j) m)) (c.keystream (state_after c s m n))) er in
+    let ly : length ys ≡ c.rate = ap length ey2 ∙ length-on_bytes _ b _ ∙ lb in
+    ap (λ (j : ℕ). take ((n + 1) * c.rate) (put_mid (n * rate) j out ys)) kr ∙ ap (λ (j : ℕ). take ((n + 1) * c.rate) (put_mid (n * j) c.rate out ys)) er
+    ∙ grown out ys n c.rate (omega arith) ly ∙ ap (λ (v : List ℕ). v ++ ys) text ∙ ap (λ (v : List ℕ). text_of c s m n ++ v) ey2 ∙ sym (text_of_next c s m n)
+
+pub encrypt_into_end : (c d : Family) (s t : State) (m out b ys : List ℕ) (n a k : ℕ) → 0 < c.rate → d ≡ c → n ≡ length m / c.rate → t ≡ state_after c s m n
+    → take (n * c.rate) out ≡ text_of c s m n → b ≡ drop (n * c.rate) m → ys ≡ xor_bytes b (d.keystream t) → a ≡ n * c.rate → length out ≤ a + k
+    → put_mid a k out ys ≡ cipher_text c s m
+encrypt_into_end c d s t m out b ys n a k pos ed en et text eb ey ea lk =
+    let rest : drop k (drop a out) ≡ [] = drop_all k (drop a out) (omega (arith, length-drop a out)) in
+    let front : take a out ≡ text_of c s m n = ap (λ (j : ℕ). take j out) ea ∙ text in
+    let ey2 : ys ≡ xor_bytes (drop (n * c.rate) m) (c.keystream (state_after c s m n)) =
+    ey ∙ ap (λ (v : Family). xor_bytes b (v.keystream t)) ed ∙ ap (λ (v : State). xor_bytes b (c.keystream v)) et
+    ∙ ap (λ (v : List ℕ). xor_bytes v (c.keystream (state_after c s m n))) eb in
+    ap (λ (v : List ℕ). take a out ++ (ys ++ v)) rest ∙ ap (λ (v : List ℕ). take a out ++ v) (append-nil ys) ∙ ap (λ (v : List ℕ). v ++ ys) front
+    ∙ ap (λ (v : List ℕ). text_of c s m n ++ v) ey2 ∙ sym (cipher_text_is c s m n pos en)
+
+-- what stands in the place written to, and behind it what is still to be read
+abbrev pub half_way : List ℕ → List ℕ → ℕ → List ℕ
+half_way from to a = take a to ++ drop a from
+
+half_way_long : (from to : List ℕ) (a : ℕ) → a ≤ length from → length to ≡ length from → length (half_way from to a) ≡ length from
+half_way_long from to a fits l =
+    length-append (take a to) (drop a from) ∙ omega (arith, length-take-le a to (omega arith), length-drop a from)
+
+half_way_front : (from to : List ℕ) (a : ℕ) → a ≤ length to → take a (half_way from to a) ≡ take a to
+half_way_front from to a fits = take_at (take a to) (drop a from) a (length-take-le a to fits)
+
+half_way_back : (from to : List ℕ) (a : ℕ) → a ≤ length to → drop a (half_way from to a) ≡ drop a from
+half_way_back from to a fits = drop_at (take a to) (drop a from) a (length-take-le a to fits)
+
+-- the same bytes as if one place were written and read
+half_way_put : (from to ys : List ℕ) (a r : ℕ) → a + r ≤ length from → length to ≡ length from → length ys ≡ r
+    → put_mid a r (half_way from to a) ys ≡ half_way from (put_mid a r to ys) (a + r)
+half_way_put from to ys a r fits l ly =
+    let v : List ℕ = half_way from to a in
+    let head : List ℕ = take a to in
+    let x : List ℕ = drop r (drop a to) in
+    let lh : length head ≡ a = length-take-le a to (omega arith) in
+    let front : take a v ≡ head = half_way_front from to a (omega arith) in
+    let back : drop r (drop a v) ≡ drop (a + r) from = ap (λ (u : List ℕ). drop r u) (half_way_back from to a (omega arith)) ∙ drop-drop r a from in
+    let put : take (a + r) (head ++ (ys ++ x)) ≡ head ++ ys =
+    ap (λ (j : ℕ). take (j + r) (head ++ (ys ++ x))) (sym lh) ∙ take-append-add head (ys ++ x) r ∙ ap (λ (u : List ℕ). head ++ u) (take_at ys x r ly) in
+    ap (λ (u : List ℕ). u ++ (ys ++ drop r (drop a v))) front ∙ ap (λ (u : List ℕ). head ++ (ys ++ u)) back ∙ sym (append_assoc head ys (drop (a + r) from))
+    ∙ ap (λ (u : List ℕ). u ++ drop (a + r) from) (sym put)
+
+pub decrypt_into_step : (c d : Family) (s t u : State) (from to ys : List ℕ) (n rate k : ℕ) → d ≡ c → rate ≡ c.rate → k ≡ rate → n * rate + rate ≤ length from → length to ≡ length from
+    → t ≡ state_after c s (half_way from to (n * c.rate)) n → take (n * c.rate) from ≡ text_of c s (half_way from to (n * c.rate)) n
+    → ys ≡ xor_bytes (take k (drop (n * rate) from)) (d.keystream t) → u ≡ d.update t ys
+    → (u ≡ state_after c s (half_way from (put_mid (n * rate) k to ys) ((n + 1) * c.rate)) (n + 1))
+    × (take ((n + 1) * c.rate) from ≡ text_of c s (half_way from (put_mid (n * rate) k to ys) ((n + 1) * c.rate)) (n + 1))
+decrypt_into_step c d s t u from to ys n rate k ed er ek fits l et text ey eu =
+    let r : ℕ = c.rate in
+    let kr : k ≡ r = ek ∙ er in
+    let fits2 : n * r + r ≤ length from = let P : ℕ → Type 0 = λ j. n * j + j ≤ length from in subst P er fits in
+    let v : List ℕ = half_way from to (n * r) in
+    let lv : length v ≡ length from = half_way_long from to (n * r) (omega arith) l in
+    let back : drop (n * r) v ≡ drop (n * r) from = half_way_back from to (n * r) (omega arith) in
+    let b : List ℕ = take k (drop (n * rate) from) in
+    let lb : length b ≡ r = ap (λ (j : ℕ). length (take j (drop (n * rate) from))) kr ∙ ap (λ (j : ℕ). length (take r (drop (n * j) from))) er
+    ∙ length-take-le r (drop (n * r) from) (omega (arith, length-drop (n * r) from)) in
+    let ly : length ys ≡ r = ap length ey ∙ length-on_bytes _ b _ ∙ lb in
+    let read : b ≡ take k (drop (n * rate) v) = ap (λ (j : ℕ). take k (drop (n * j) from)) er ∙ ap (λ (w : List ℕ). take k w) (sym back) ∙ ap (λ (j : ℕ). take k (drop (n * j) v)) (sym er) in
+    let next = decrypt_step c d s t u from v ys n rate k ed er ek (omega arith) et text back (ey ∙ ap (λ (w : List ℕ). xor_bytes w (d.keystream t)) read) eu in
+    let e : n * r + r ≡ (n + 1) * r = omega arith in
+    let same : put_mid (n * rate) k v ys ≡ half_way from (put_mid (n * rate) k to ys) ((n + 1) * r) =
+    ap (λ (j : ℕ). put_mid (n * rate) j v ys) kr ∙ ap (λ (j : ℕ). put_mid (n * j) r v ys) er ∙ half_way_put from to ys (n * r) r fits2 l ly
+    ∙ ap (λ (j : ℕ). half_way from (put_mid (n * j) r to ys) (n * r + r)) (sym er) ∙ ap (λ (j : ℕ). half_way from (put_mid (n * rate) j to ys) (n * r + r)) (sym kr)
+    ∙ ap (λ (j : ℕ). half_way from (put_mid (n * rate) k to ys) j) e in
+    let P : List ℕ → Type 0 = λ w. (u ≡ state_after c s w (n + 1)) × (take ((n + 1) * r) from ≡ text_of c s w (n + 1)) in
+    subst P same (next.0, next.1)
+
+pub decrypt_into_end : (c d : Family) (s t u : State) (from to b ys : List ℕ) (n a k : ℕ) → 0 < c.rate → d ≡ c → n ≡ length from / c.rate → n * c.rate ≤ length from → length to ≡ length from
+    → t ≡ state_after c s (half_way from to (n * c.rate)) n → take (n * c.rate) from ≡ text_of c s (half_way from to (n * c.rate)) n
+    → b ≡ drop (n * c.rate) from → ys ≡ xor_bytes b (d.keystream t) → u ≡ absorbed_tail d t ys → a ≡ n * c.rate → length to ≤ a + k
+    → (from ≡ cipher_text c s (put_mid a k to ys)) × (u ≡ absorbed c s (put_mid a k to ys))
+decrypt_into_end c d s t u from to b ys n a k pos ed en fits l et text eb ey eu ea lk =
+    let r : ℕ = c.rate in
+    let v : List ℕ = half_way from to (n * r) in
+    let lv : length v ≡ length from = half_way_long from to (n * r) fits l in
+    let front : take (n * r) v ≡ take (n * r) to = half_way_front from to (n * r) (omega arith) in
+    let back : drop (n * r) v ≡ drop (n * r) from = half_way_back from to (n * r) (omega arith) in
+    let end = decrypt_end c d s t u from v b ys n a k pos ed (en ∙ ap (λ (j : ℕ). j / r) (sym lv)) (omega arith) et text back (eb ∙ sym back) ey eu ea (omega arith) in
+    let gone : drop k (drop a v) ≡ [] = drop_all k (drop a v) (omega (arith, length-drop a v)) in
+    let gone2 : drop k (drop a to) ≡ [] = drop_all k (drop a to) (omega (arith, length-drop a to)) in
+    let same : put_mid a k v ys ≡ put_mid a k to ys =
+    ap (λ (w : List ℕ). take a v ++ (ys ++ w)) gone ∙ ap (λ (j : ℕ). take j v ++ (ys ++ [])) ea ∙ ap (λ (w : List ℕ). w ++ (ys ++ [])) front
+    ∙ ap (λ (j : ℕ). take j to ++ (ys ++ [])) (sym ea) ∙ ap (λ (w : List ℕ). take a to ++ (ys ++ w)) (sym gone2) in
+    let P : List ℕ → Type 0 = λ w. (from ≡ cipher_text c s w) × (u ≡ absorbed c s w) in
+    subst P same end
 
 -- ---- sizes
 

@@ -7,7 +7,7 @@ use Rattle.std.proofs.Math.Seq.{take-add}
 use Rattle.aes_spec.specs.Bytes.{xor_bytes}
 use Rattle.aegis_core.specs.Blocks.{block_at, first_blocks}
 use Rattle.aegis_core.specs.Lanes.{State}
-use Rattle.aegis_core.specs.Family.{Family, absorbed, cipher_text, keyed, sealed_by, mac_by}
+use Rattle.aegis_core.specs.Family.{Family, absorbed, cipher_text, keyed, sealed_by}
 use Rattle.aegis_core.proofs.BytesLemmas.{length-on_bytes, xor_cancel, first_blocks_same}
 use Rattle.aegis_core.proofs.SealLemmas.{state_after, text_of, text_of_next, length-text_of, cipher_text_is}
 use Rattle.aegis_core.proofs.LoopLemmas.{whole_fits}
@@ -94,13 +94,6 @@ seal_code c d e t j key nonce ad m text tag s0 s1 s2 f1 f2 e1 ex e2 ej eg e0 =
     seal_is c t key nonce ad m text tag s0 s1 s2 e0 e1 (ex ∙ ap (λ (v : Family). cipher_text v s1 m) f1)
     (e2 ∙ ap (λ (v : Family). absorbed v s1 m) f1)
     (eg ∙ ap (λ (v : ℕ). e.finalise t (8 * length ad) (8 * v) s2) ej ∙ ap (λ (v : Family). v.finalise t (8 * length ad) (8 * length m) s2) (f2 ∙ f1))
-
--- the code's values are those of the MAC
-pub mac_code : (c d : Family) (t : ℕ) (key nonce text tag : List ℕ) (s0 s1 : State) → d ≡ c → s1 ≡ absorbed c s0 text
-    → tag ≡ d.finalise t (8 * length text) (8 * t) s1 → s0 ≡ c.initial key nonce → mac_by c t key nonce text ≡ tag
-mac_code c d t key nonce text tag s0 s1 f1 e1 eg e0 =
-    let k1 : s1 ≡ keyed c key nonce text = e1 ∙ ap (λ (v : State). absorbed c v text) e0 in
-    sym (eg ∙ ap (λ (v : Family). v.finalise t (8 * length text) (8 * t) s1) f1 ∙ ap (λ (v : State). c.finalise t (8 * length text) (8 * t) v) k1)
 
 pub pos_same : (c d : Family) → d ≡ c → 0 < d.rate → 0 < c.rate
 pos_same c d e h = let P : Family → Type 0 = λ v. 0 < v.rate in subst P e h

@@ -5,7 +5,7 @@ use Rattle.std.proofs.lemmas.List.{append-nil, append_assoc, take_all, take_at, 
 use Rattle.std.proofs.Math.Seq.{take-add}
 use borrow.Rule.Slice.PartMut.{put_mid}
 use Rattle.aes_spec.specs.Bytes.{xor_bytes}
-use Rattle.aegis_core.specs.Added.{IsAdded}
+use Rattle.aegis_core.specs.Added.{IsAdded, IsSum}
 use Rattle.aegis_core.specs.Lanes.{Lane, Block}
 use Rattle.aegis_core.specs.Held.{lane_count, used_lanes, used_bytes}
 use Rattle.aegis_core.specs.declared.lane_count.LaneCount.{LaneCount}
@@ -37,6 +37,28 @@ added_more xs ks old new z s b at room eb es ls front rest h =
 pub added_all : (xs ks now : List ℕ) (n : ℕ) → length xs ≡ n → length now ≡ length xs → IsAdded xs ks n now → now ≡ xor_bytes xs ks
 added_all xs ks now n lx ln h =
     sym (take_all n now (omega arith)) ∙ h.front ∙ ap (λ (v : List ℕ). xor_bytes v ks) (take_all n xs (omega arith))
+
+pub sum_none : (xs old : List ℕ) → IsSum xs [] 0 old
+sum_none xs old = record { count = refl; front = sym (on_bytes-nil _ (take 0 xs)) }
+
+-- one more block, s being its sum with the bytes b of xs that stand there
+pub sum_more : (xs ks old new z s b : List ℕ) (at : ℕ) → at + 16 ≤ length xs → b ≡ take 16 (drop at xs) → s ≡ xor_bytes z b → length s ≡ 16
+    → take (at + 16) new ≡ take at old ++ s → IsSum xs ks at old → IsSum xs (ks ++ z) (at + 16) new
+sum_more xs ks old new z s b at room eb es ls front h =
+    let lz : length z ≡ 16 = sym (length-on_bytes _ z b) ∙ sym (ap length es) ∙ ls in
+    let lb : length b ≡ 16 = ap length eb ∙ length-take-le 16 (drop at xs) (omega (arith, length-drop at xs)) in
+    let other : s ≡ xor_bytes (take 16 (drop at xs)) z = es ∙ xor_comm_bytes z b (lz ∙ sym lb) ∙ ap (λ (v : List ℕ). xor_bytes v z) eb in
+    let lk : length ks ≡ at = h.count in
+    let lt : length (take at xs) ≡ length ks = length-take-le at xs (omega arith) ∙ sym h.count in
+    record {
+      count = omega (arith, length-append ks z);
+      front = front ∙ ap (λ (v : List ℕ). v ++ s) h.front ∙ ap (λ (v : List ℕ). xor_bytes (take at xs) ks ++ v) other
+          ∙ sym (on_bytes-append _ (take at xs) (take 16 (drop at xs)) ks z lt) ∙ ap (λ (v : List ℕ). xor_bytes v (ks ++ z)) (sym (take-add at 16 xs));
+    }
+
+-- a sum over all of the bytes leaves none
+pub whole_sum : (xs ks now : List ℕ) (n : ℕ) → length xs ≡ n → length now ≡ length xs → IsSum xs ks n now → IsAdded xs ks n now
+whole_sum xs ks now n lx ln h = record { count = h.count; front = h.front; rest = drop_all n now (omega arith) ∙ sym (drop_all n xs (omega arith)) }
 
 -- ---- the blocks of a row
 
@@ -117,3 +139,13 @@ halves_added old j k x y h lo ex lj ey =
     let ey2 : y ≡ xor_bytes rest k = ey ∙ ap (λ (v : List ℕ). xor_bytes v k) (take_rest (x ++ rest) h ∙ back) in
     halves_put old x y h lo lx ∙ ap (λ (v : List ℕ). v ++ y) ex ∙ ap (λ (v : List ℕ). xor_bytes (take h old) j ++ v) ey2
     ∙ sym (on_bytes-append _ (take h old) rest j k (sym lj)) ∙ ap (λ (v : List ℕ). xor_bytes v (j ++ k)) (take-append-drop h old)
+
+pub halves_summed : (from old j k x y : List ℕ) (h : ℕ) → length from ≡ h + h → length old ≡ h + h → x ≡ xor_bytes (take h from) j → length j ≡ length (take h from)
+    → y ≡ xor_bytes (take (length from - h) (drop h from)) k
+    → put_mid h (length (x ++ drop h old) - h) (x ++ drop h old) y ≡ xor_bytes from (j ++ k)
+halves_summed from old j k x y h lf lo ex lj ey =
+    let lt : length (take h from) ≡ h = length-take-le h from (omega arith) in
+    let lx : length x ≡ h = ap length ex ∙ length-on_bytes _ (take h from) j ∙ lt in
+    let ey2 : y ≡ xor_bytes (drop h from) k = ey ∙ ap (λ (v : List ℕ). xor_bytes v k) (take_rest from h) in
+    halves_put old x y h lo lx ∙ ap (λ (v : List ℕ). v ++ y) ex ∙ ap (λ (v : List ℕ). xor_bytes (take h from) j ++ v) ey2
+    ∙ sym (on_bytes-append _ (take h from) (drop h from) j k (sym lj)) ∙ ap (λ (v : List ℕ). xor_bytes v (j ++ k)) (take-append-drop h from)

@@ -3,8 +3,8 @@ use Rattle.std.proofs.Common.{◌≡◌, length, refl, Bool, true, false, ℕ, L
 use Rattle.std.specs.Bool.{OnTrue, OnFalse}
 use Rattle.aes_spec.specs.Bytes.{xor_bytes}
 use Rattle.aegis_core.specs.Lanes.{State}
-use Rattle.aegis_core.specs.Family.{Family, sealed_by, mac_by, stream_by}
-use Rattle.aegis_core.specs.Sealing.{family_of, seal, mac, stream}
+use Rattle.aegis_core.specs.Family.{Family, sealed_by, stream_by}
+use Rattle.aegis_core.specs.Sealing.{family_of, seal, stream}
 use Rattle.aegis_core.specs.declared.variant.Variant.{Variant}
 
 -- a state that is the initial one of its family
@@ -23,11 +23,6 @@ pub seal_none : (v w : Variant) (f : Family) (t : ℕ) (key nonce ad m : List �
 unfolding seal
 seal_none v w f t key nonce ad m p ev ef without e =
     without (ap (λ (x : Family). sealed_by x t key nonce ad m) ef ∙ ap (λ (x : Variant). seal x t key nonce ad m) (sym ev) ∙ e)
-
-pub mac_as : (v : Variant) (f : Family) (t : ℕ) (key nonce text tag : List ℕ) → f ≡ family_of v
-    → mac_by f t key nonce text ≡ tag → tag ≡ mac v t key nonce text
-unfolding mac
-mac_as v f t key nonce text tag ef e = sym (ap (λ (x : Family). mac_by x t key nonce text) (sym ef) ∙ e)
 
 pub on_true : (b : Bool) (P Q : Type 0) → (P → Q) → OnTrue b P → OnTrue b Q
 on_true true P Q f p = f p

@@ -11,7 +11,7 @@ use crate::encryptor::Encryptor;
 use crate::error::Error;
 use crate::kind::CipherKind;
 use crate::lane_state::LaneState;
-use crate::sealing::{seal_in_place, unseal_in_place};
+use crate::sealing::{seal_in_place, seal_into, unseal_in_place, unseal_into};
 use crate::streaming::{stream_in_place, stream_xor_in_place};
 use std::alloc::Global;
 use std::fmt;
@@ -59,6 +59,20 @@ impl<
         tag
     }
 
+    /// Encrypts `m` into `c`, which has as many bytes: afterwards it holds the cipher text of `m`, whose tag is
+    /// the answer. It is `encrypt_in_place` without a copy of the message.
+    pub fn encrypt_into(self, m: &[u8], c: &mut [u8], ad: &[u8]) -> [u8; TAG_BYTES]
+        requires tag_bytes { (TAG_BYTES ≡ 16) ⊎ (TAG_BYTES ≡ 32) }
+        requires ad_len { length ad.now < 2 ^ 61 }
+        requires m_len { length m.now < 2 ^ 61 }
+        requires room { length c.old ≡ length m.now }
+        ensures { seal K.variant TAG_BYTES (key_of self) (nonce_of self) ad.now m.now ≡ (c.new, result) }
+    {
+        let mut tag = [0; TAG_BYTES];
+        seal_into(K::variant(), &self.key, &self.nonce, ad, m, c, &mut tag);
+        tag
+    }
+
     /// The cipher text of `m`, and its tag. The only refusal is `OutOfMemory`.
     pub fn encrypt(
         self,
@@ -96,6 +110,31 @@ impl<
         ensures refused { IfErr result (λ e. e ≡ Error.InvalidTag) }
     {
         if unseal_in_place(K::variant(), &self.key, &self.nonce, ad, mc, tag) {
+            Ok(())
+        } else {
+            Err(Error::InvalidTag)
+        }
+    }
+
+    /// Decrypts `c` into `m`, which has as many bytes: the answer is Ok exactly where a message has this cipher
+    /// text and tag, and `m` then holds it. Else every byte of `m` is 0xaa, and the refusal is `InvalidTag`.
+    pub fn decrypt_into(
+        &self,
+        c: &[u8],
+        m: &mut [u8],
+        tag: &[u8; TAG_BYTES],
+        ad: &[u8],
+    ) -> Result<(), Error>
+        requires tag_bytes { (TAG_BYTES ≡ 16) ⊎ (TAG_BYTES ≡ 32) }
+        requires ad_len { length ad.now < 2 ^ 61 }
+        requires c_len { length c.now < 2 ^ 61 }
+        requires room { length m.old ≡ length c.now }
+        ensures message { OnOk result (Unseals K.variant TAG_BYTES (key_of self.now) (nonce_of self.now) ad.now c.now tag.now (Some m.new)) }
+        ensures none { OnErr result (Unseals K.variant TAG_BYTES (key_of self.now) (nonce_of self.now) ad.now c.now tag.now None) }
+        ensures erased { OnErr result (m.new ≡ replicate (length m.old) 0xaa) }
+        ensures refused { IfErr result (λ e. e ≡ Error.InvalidTag) }
+    {
+        if unseal_into(K::variant(), &self.key, &self.nonce, ad, c, tag, m) {
             Ok(())
         } else {
             Err(Error::InvalidTag)

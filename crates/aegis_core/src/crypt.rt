@@ -3,7 +3,7 @@
 ghost use Rattle.std.specs.Bool.{OnTrue, OnFalse};
 ghost use Rattle.std.specs.Prelude.{◌≡◌, ◌≢◌, ◌⊎◌, ℕ, ◌*◌, ◌^◌, ◌<◌, List, length, replicate};
 ghost use Rattle.aes_spec.specs.Bytes.{xor_bytes};
-ghost use Rattle.aegis_core.specs.Family.{absorbed, cipher_text, sealed_by, mac_by, stream_by};
+ghost use Rattle.aegis_core.specs.Family.{absorbed, cipher_text, sealed_by, stream_by};
 ghost use Rattle.aegis_core.specs.Tail.{absorbed_tail};
 
 use crate::bytes::{padded_block, xor_into};
@@ -24,7 +24,7 @@ pub(crate) fn absorb_tail<S: LaneState>(state: &mut S, tail: &[u8])
 }
 
 // Encrypts less than a block in place.
-fn encrypt_tail<S: LaneState>(state: &mut S, tail: &mut [u8])
+pub(crate) fn encrypt_tail<S: LaneState>(state: &mut S, tail: &mut [u8])
     requires { length tail.old < (S.family state.old).rate }
     ensures same { S.family state.new ≡ S.family state.old }
     ensures text { tail.new ≡ xor_bytes tail.old ((S.family state.old).keystream (S.lanes state.old)) }
@@ -38,7 +38,7 @@ fn encrypt_tail<S: LaneState>(state: &mut S, tail: &mut [u8])
 }
 
 // Decrypts less than a block in place.
-fn decrypt_tail<S: LaneState>(state: &mut S, text: &mut [u8])
+pub(crate) fn decrypt_tail<S: LaneState>(state: &mut S, text: &mut [u8])
     requires { length text.old < (S.family state.old).rate }
     ensures same { S.family state.new ≡ S.family state.old }
     ensures text { text.new ≡ xor_bytes text.old ((S.family state.old).keystream (S.lanes state.old)) }
@@ -109,35 +109,51 @@ pub(crate) fn are_same(a: &[u8], b: &[u8]) -> bool
     *a == *b
 }
 
-/// Seals `mc` in place under the key and nonce of the initial state.
-pub(crate) fn seal_lanes<S: LaneState>(state: S, ad: &[u8], mc: &mut [u8], tag: &mut [u8])
+/// Seals `mc` in place under a key and a nonce, on lanes that are not started.
+pub(crate) fn seal_lanes<S: LaneState>(
+    state: &mut S,
+    key: &[u8],
+    nonce: &[u8],
+    ad: &[u8],
+    mc: &mut [u8],
+    tag: &mut [u8],
+)
+    requires key { length key.now ≡ S.key_bytes }
+    requires nonce { length nonce.now ≡ S.key_bytes }
     requires tag_len { (length tag.old ≡ 16) ⊎ (length tag.old ≡ 32) }
     requires ad_len { length ad.now < 2 ^ 61 }
     requires mc_len { length mc.old < 2 ^ 61 }
-    ensures { (key nonce : List ℕ) → S.lanes state ≡ (S.family state).initial key nonce
-        → sealed_by (S.family state) (length tag.old) key nonce ad.now mc.old ≡ (mc.new, tag.new) }
+    ensures { sealed_by (S.family state.old) (length tag.old) key.now nonce.now ad.now mc.old ≡ (mc.new, tag.new) }
 {
-    let mut state = state;
-    absorb_all(&mut state, ad);
-    encrypt_all(&mut state, mc);
+    state.start(key, nonce);
+    absorb_all(state, ad);
+    encrypt_all(state, mc);
     state.finalise(8 * ad.len() as u64, 8 * mc.len() as u64, tag);
 }
 
-/// Unseals `mc` in place under the key and nonce of the initial state: whether there is a message,
-/// which then stands in `mc`. Else every byte of `mc` is 0xaa.
-pub(crate) fn unseal_lanes<S: LaneState>(state: S, ad: &[u8], mc: &mut [u8], tag: &[u8]) -> bool
+/// Unseals `mc` in place under a key and a nonce, on lanes that are not started: whether there is a
+/// message, which then stands in `mc`. Else every byte of `mc` is 0xaa.
+pub(crate) fn unseal_lanes<S: LaneState>(
+    state: &mut S,
+    key: &[u8],
+    nonce: &[u8],
+    ad: &[u8],
+    mc: &mut [u8],
+    tag: &[u8],
+) -> bool
+    requires key { length key.now ≡ S.key_bytes }
+    requires nonce { length nonce.now ≡ S.key_bytes }
     requires tag_len { (length tag.now ≡ 16) ⊎ (length tag.now ≡ 32) }
     requires ad_len { length ad.now < 2 ^ 61 }
     requires mc_len { length mc.old < 2 ^ 61 }
-    ensures message { OnTrue result ((key nonce : List ℕ) → S.lanes state ≡ (S.family state).initial key nonce
-        → sealed_by (S.family state) (length tag.now) key nonce ad.now mc.new ≡ (mc.old, tag.now)) }
-    ensures none { OnFalse result ((key nonce m : List ℕ) → S.lanes state ≡ (S.family state).initial key nonce
-        → (sealed_by (S.family state) (length tag.now) key nonce ad.now m ≡ (mc.old, tag.now)) → ⊥) }
+    ensures message { OnTrue result (sealed_by (S.family state.old) (length tag.now) key.now nonce.now ad.now mc.new ≡ (mc.old, tag.now)) }
+    ensures none { OnFalse result ((m : List ℕ)
+        → (sealed_by (S.family state.old) (length tag.now) key.now nonce.now ad.now m ≡ (mc.old, tag.now)) → ⊥) }
     ensures erased { OnFalse result (mc.new ≡ replicate (length mc.old) 0xaa) }
 {
-    let mut state = state;
-    absorb_all(&mut state, ad);
-    decrypt_all(&mut state, mc);
+    state.start(key, nonce);
+    absorb_all(state, ad);
+    decrypt_all(state, mc);
     let mut buffer = [0u8; 32];
     let expected = &mut buffer[..tag.len()];
     state.finalise(8 * ad.len() as u64, 8 * mc.len() as u64, expected);
@@ -148,27 +164,16 @@ pub(crate) fn unseal_lanes<S: LaneState>(state: S, ad: &[u8], mc: &mut [u8], tag
     false
 }
 
-/// The MAC of a text under the key and nonce of the initial state.
-pub(crate) fn mac_lanes<S: LaneState>(state: S, text: &[u8], tag: &mut [u8])
-    requires tag_len { (length tag.old ≡ 16) ⊎ (length tag.old ≡ 32) }
-    requires text_len { length text.now < 2 ^ 61 }
-    ensures { (key nonce : List ℕ) → S.lanes state ≡ (S.family state).initial key nonce
-        → mac_by (S.family state) (length tag.old) key nonce text.now ≡ tag.new }
+/// Fills `out` with the keystream under a key and a nonce, on lanes that are not started.
+pub(crate) fn stream_lanes<S: LaneState>(state: &mut S, key: &[u8], nonce: &[u8], out: &mut [u8])
+    requires key { length key.now ≡ S.key_bytes }
+    requires nonce { length nonce.now ≡ S.key_bytes }
+    ensures { out.new ≡ stream_by (S.family state.old) key.now nonce.now (length out.old) }
 {
-    let mut state = state;
-    absorb_all(&mut state, text);
-    state.finalise(8 * text.len() as u64, 8 * tag.len() as u64, tag);
-}
-
-/// Fills `out` with the keystream under the key and nonce of the initial state.
-pub(crate) fn stream_lanes<S: LaneState>(state: S, out: &mut [u8])
-    ensures { (key nonce : List ℕ) → S.lanes state ≡ (S.family state).initial key nonce
-        → out.new ≡ stream_by (S.family state) key nonce (length out.old) }
-{
-    let mut state = state;
-    absorb_all(&mut state, &[]);
+    state.start(key, nonce);
+    absorb_all(state, &[]);
     clear(out);
-    encrypt_all(&mut state, out);
+    encrypt_all(state, out);
 }
 
 /// Adds to `mc` the cipher text of as many zeros.
@@ -188,12 +193,13 @@ fn xor_stream_all<S: LaneState>(state: &mut S, mc: &mut [u8])
     xor_into(&mut mc[whole * rate..], &keystream[..left]);
 }
 
-/// Adds the keystream to `mc` under the key and nonce of the initial state.
-pub(crate) fn xor_stream_lanes<S: LaneState>(state: S, mc: &mut [u8])
-    ensures { (key nonce : List ℕ) → S.lanes state ≡ (S.family state).initial key nonce
-        → mc.new ≡ xor_bytes mc.old (stream_by (S.family state) key nonce (length mc.old)) }
+/// Adds the keystream to `mc` under a key and a nonce, on lanes that are not started.
+pub(crate) fn xor_stream_lanes<S: LaneState>(state: &mut S, key: &[u8], nonce: &[u8], mc: &mut [u8])
+    requires key { length key.now ≡ S.key_bytes }
+    requires nonce { length nonce.now ≡ S.key_bytes }
+    ensures { mc.new ≡ xor_bytes mc.old (stream_by (S.family state.old) key.now nonce.now (length mc.old)) }
 {
-    let mut state = state;
-    absorb_all(&mut state, &[]);
-    xor_stream_all(&mut state, mc);
+    state.start(key, nonce);
+    absorb_all(state, &[]);
+    xor_stream_all(state, mc);
 }

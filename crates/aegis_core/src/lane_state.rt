@@ -1,6 +1,6 @@
 //! What sealing needs of the lanes of a family.
 
-ghost use Rattle.std.specs.Prelude.{◌≡◌, ◌⊎◌, ◌<◌, ◌≤◌, length};
+ghost use Rattle.std.specs.Prelude.{◌≡◌, ◌⊎◌, ℕ, ◌<◌, ◌≤◌, length};
 ghost use Rattle.aes_spec.specs.Bytes.{xor_bytes};
 ghost use Rattle.aegis_core.specs.Lanes.{State};
 ghost use Rattle.aegis_core.specs.Family.{Family};
@@ -11,6 +11,16 @@ pub trait LaneState: Copy {
     ghost family: { Self → Family };
     /// The blocks of the lanes in use.
     ghost lanes: { Self → State };
+    /// How many bytes a key has, and a nonce.
+    ghost key_bytes: { ℕ };
+
+    /// Sets the initial state under a key and a nonce, in place: a state that is handed back by value is
+    /// cleared and copied on its way.
+    fn start(&mut self, key: &[u8], nonce: &[u8])
+        requires key { length key.now ≡ key_bytes }
+        requires nonce { length nonce.now ≡ key_bytes }
+        ensures same { family self.new ≡ family self.old }
+        ensures initial { lanes self.new ≡ (family self.old).initial key.now nonce.now };
 
     /// How many bytes a block of input has.
     fn rate(&self) -> usize
@@ -43,12 +53,28 @@ pub trait LaneState: Copy {
         ensures text { block.new ≡ xor_bytes block.old ((family self.old).keystream (lanes self.old)) }
         ensures updated { lanes self.new ≡ (family self.old).update (lanes self.old) block.new };
 
+    /// Encrypts a whole block into another.
+    fn encrypt_into(&mut self, from: &[u8], to: &mut [u8])
+        requires from { length from.now ≡ (family self.old).rate }
+        requires to { length to.old ≡ (family self.old).rate }
+        ensures same { family self.new ≡ family self.old }
+        ensures text { to.new ≡ xor_bytes from.now ((family self.old).keystream (lanes self.old)) }
+        ensures updated { lanes self.new ≡ (family self.old).update (lanes self.old) from.now };
+
+    /// Decrypts a whole block into another.
+    fn decrypt_into(&mut self, from: &[u8], to: &mut [u8])
+        requires from { length from.now ≡ (family self.old).rate }
+        requires to { length to.old ≡ (family self.old).rate }
+        ensures same { family self.new ≡ family self.old }
+        ensures text { to.new ≡ xor_bytes from.now ((family self.old).keystream (lanes self.old)) }
+        ensures updated { lanes self.new ≡ (family self.old).update (lanes self.old) to.new };
+
     /// Overwrites the blocks with zeros.
     fn clear(&mut self)
         ensures { family self.new ≡ family self.old };
 
     /// The tag, with these two numbers in the places of the lengths in bits.
-    fn finalise(self, first: u64, second: u64, tag: &mut [u8])
+    fn finalise(&self, first: u64, second: u64, tag: &mut [u8])
         requires { (length tag.old ≡ 16) ⊎ (length tag.old ≡ 32) }
-        ensures { tag.new ≡ (family self).finalise (length tag.old) first second (lanes self) };
+        ensures { tag.new ≡ (family self.now).finalise (length tag.old) first second (lanes self.now) };
 }

@@ -1,6 +1,6 @@
 -- The parts of a frame at the front of a buffer.
-use Rattle.std.proofs.Common.{◌≡◌, ℕ, ◌+◌, ◌≤◌, List, ◌++◌, Option, subst, length, take, drop, sym, ap, ◌∙◌, arith}
-use Rattle.std.proofs.lemmas.List.{take-take, take_at, drop-take, drop-drop, length-take-le}
+use Rattle.std.proofs.Common.{◌≡◌, ℕ, ◌+◌, ◌≤◌, List, ◌++◌, Option, subst, length, take, drop, sym, ap, ◌∙◌, arith, length-drop}
+use Rattle.std.proofs.lemmas.List.{take-take, take_at, take_all, drop_at, drop-take, drop-drop, length-take-le}
 use Rattle.aegis_core.specs.Sealing.{Unseals}
 use Rattle.aegis_core.specs.declared.variant.Variant.TheVariants.{Aegis128L}
 
@@ -37,3 +37,16 @@ unseals_at k l n o h i c d t u a ek en eh ec et is =
     (subst (λ (x : List ℕ). Unseals Aegis128L 16 k n x d u a) eh
     (subst (λ (x : List ℕ). Unseals Aegis128L 16 k n h x u a) ec
     (subst (λ (x : List ℕ). Unseals Aegis128L 16 k n h c x a) et is))))
+
+-- a head and what comes behind it are one frame
+pub joined : (W : Type 0 → Type 0) (key nonce h r : List ℕ) (len : ℕ) (a : Option (List ℕ)) → length h ≡ 5 → length r ≡ 16 + len
+    → W (Unseals Aegis128L 16 key nonce h (take len r) (drop len r) a)
+    → W (Unseals Aegis128L 16 key nonce (take 5 (h ++ r)) (take len (drop 5 (h ++ r))) (take 16 (drop (5 + len) (h ++ r))) a)
+joined W key nonce h r len a five long got =
+    let head : h ≡ take 5 (h ++ r) = sym (take_at h r 5 five) in
+    let rest : r ≡ drop 5 (h ++ r) = sym (drop_at h r 5 five) in
+    let tag : drop len r ≡ take 16 (drop (5 + len) (h ++ r)) =
+    sym (take_all 16 (drop len r) (omega (arith, length-drop len r))) ∙ ap (λ (l : List ℕ). take 16 (drop len l)) rest ∙ ap (take 16) (drop-drop len 5 (h ++ r)) in
+    subst (λ (l : List ℕ). W (Unseals Aegis128L 16 key nonce l (take len (drop 5 (h ++ r))) (take 16 (drop (5 + len) (h ++ r))) a)) head
+    (subst (λ (l : List ℕ). W (Unseals Aegis128L 16 key nonce h (take len l) (take 16 (drop (5 + len) (h ++ r))) a)) rest
+    (subst (λ (l : List ℕ). W (Unseals Aegis128L 16 key nonce h (take len r) l a)) tag got))

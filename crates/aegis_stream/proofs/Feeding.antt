@@ -2,7 +2,7 @@
 use Rattle.std.proofs.Common.{◌≡◌, ℕ, ◌+◌, ◌-◌, ◌<◌, ◌≤◌, min, Bool, true, false, eqb, List, [], ◌∷◌, ◌++◌, length, take, drop, get_or, Option, Some, None, refl, sym, ap, ◌∙◌, subst, arith, inl, inr, length-append, length-take, length-drop}
 use Rattle.std.specs.Prelude.{Result, Ok, Err, IfOk, IfErr}
 use Rattle.std.proofs.Math.Seq.{take-append-add}
-use Rattle.std.proofs.lemmas.List.{append_assoc, append-nil, take_all, take_at, take-take, take-append-drop, length-take-le, take_rest}
+use Rattle.std.proofs.lemmas.List.{append_assoc, append-nil, take_all, take_at, take-take, take-append-drop, take-append-le, length-take-le, take_rest}
 use Rattle.std.proofs.lemmas.Bool.{cases_lt, cond-true, cond-false}
 use Rattle.aegis_core.specs.Sealing.{Unseals, unsealed}
 use Rattle.aegis_core.specs.declared.variant.Variant.TheVariants.{Aegis128L}
@@ -46,7 +46,7 @@ begun_same s t long head len b =
     }
 
 -- what a wrong tag leaves of the bytes begun
-pub begun_left : (b g h t : List ℕ) → IsBegun b → take (length b) g ≡ b → length h ≡ length g → length b ≤ length g → take 5 h ≡ take 5 g → t ≡ take (length b) h → IsBegun t
+pub begun_left : (b g h t : List ℕ) → IsBegun b → take (length b) g ≡ b → length b ≤ length h → length b ≤ length g → take 5 h ≡ take 5 g → t ≡ take (length b) h → IsBegun t
 begun_left b g h t ok front len le head is = elim (cases_lt (length b) 5) [
   | inl short ↦
       let same : t ≡ b =
@@ -119,6 +119,18 @@ module _ (key prefix : List ℕ) (n : ℕ) (e : Bool) (going : e ≡ false) (b x
     out = refl;
   }
 
+  pub begun_le : length b ≤ length f
+  begun_le = omega (arith, len_f)
+
+  pub head_less : (d : Head) → ReadsHead f d → length f < 21 + d.len
+  head_less d r = elim (cases_lt (length b) 5) [
+    | inl short ↦ omega (arith, len_f, h.count)
+    | inr long ↦
+        let none : k ≡ 0 = omega (arith, h.count) in
+        let same : f ≡ b = h.is ∙ ap (λ (m : ℕ). b ++ take m x) none ∙ append-nil b in
+        omega (arith, part_long b h.begun.part long, ap length same, ap length_in same, r.len)
+  ]
+
   -- the head is there, and the frame filled as far as the input goes
   module _ (d : Head) (r : ReadsHead f d) (g : List ℕ) (j : ℕ)
       (counted : j ≡ min (21 + d.len - length f) (length (take (length x - k) (drop k x)))) (appended : g ≡ f ++ take j (take (length x - k) (drop k x))) where
@@ -129,13 +141,7 @@ module _ (key prefix : List ℕ) (n : ℕ) (e : Bool) (going : e ≡ false) (b x
     more = appended ∙ ap (λ (l : List ℕ). f ++ take j l) (take_rest x k)
 
     less : length f < 21 + d.len
-    less = elim (cases_lt (length b) 5) [
-      | inl short ↦ omega (arith, len_f, h.count)
-      | inr long ↦
-          let none : k ≡ 0 = omega (arith, h.count) in
-          let same : f ≡ b = h.is ∙ ap (λ (m : ℕ). b ++ take m x) none ∙ append-nil b in
-          omega (arith, part_long b h.begun.part long, ap length same, ap length_in same, r.len)
-    ]
+    less = head_less d r
 
     len_rest : length (drop k x) ≡ length x - k
     len_rest = length-drop k x
@@ -164,9 +170,22 @@ module _ (key prefix : List ℕ) (n : ℕ) (e : Bool) (going : e ≡ false) (b x
         let is : g ≡ b ++ x = filled.1 ∙ ap (λ (l : List ℕ). b ++ l) (take_all (k + j) x (omega arith)) in
         kept_all g out (k + j) is all (part_begun short)
 
+    -- whether the input goes as far
+    pub short_len : length (take (length x - k) (drop k x)) < 21 + d.len - length f → length g < 21 + d.len
+    short_len short = omega (arith, len_g, counted)
+
+    pub long_len : j ≡ 21 + d.len - length f → 21 + d.len ≤ length g
+    long_len is = omega (arith, len_g, less)
+
+    pub head_g : take 5 f ≡ take 5 g
+    head_g = sym (ap (take 5) appended ∙ take-append-le 5 f (take j (take (length x - k) (drop k x))) r.long)
+
     -- the frame is there
     pub whole_len : 21 + d.len ≤ length g → length g ≡ 21 + d.len
     whole_len all = omega (arith, len_g, count, less)
+
+    pub whole_parts : 21 + d.len ≤ length g → length f + length (take j (take (length x - k) (drop k x))) ≡ 21 + d.len
+    whole_parts all = sym (length-append f (take j (take (length x - k) (drop k x)))) ∙ sym (ap length appended) ∙ whole_len all
 
     module _ (all : 21 + d.len ≤ length g) where
       whole : is_whole g ≡ true
@@ -193,12 +212,12 @@ module _ (key prefix : List ℕ) (n : ℕ) (e : Bool) (going : e ≡ false) (b x
       len_b = omega (arith, whole_len all, len_g, len_f)
 
       -- no message has its tag
-      pub wrong_begun : (w t : List ℕ) → length w ≡ length g → take 5 w ≡ take 5 g → t ≡ take (length b) w → IsBegun t
+      pub wrong_begun : (w t : List ℕ) → length b ≤ length w → take 5 w ≡ take 5 g → t ≡ take (length b) w → IsBegun t
       wrong_begun w t len head is = begun_left b g w t h.begun begun_in len (omega (arith, len_b, whole_len all)) head is
 
       pub wrong_stops : (nonce w t out_old out_new : List ℕ) → nonce ≡ frame_nonce prefix n
           → Unseals Aegis128L 16 key nonce (take 5 g) (take d.len (drop 5 g)) (take 16 (drop (5 + d.len) g)) None
-          → length w ≡ length g → t ≡ take (length b) w → out_new ≡ out_old
+          → length b ≤ length w → t ≡ take (length b) w → out_new ≡ out_old
           → IsStopped key prefix (at b) (at t) x out_old out_new error.InvalidTag
       wrong_stops nonce w t out_old out_new is u len left out = record {
         state = Tag;
@@ -206,7 +225,7 @@ module _ (key prefix : List ℕ) (n : ℕ) (e : Bool) (going : e ≡ false) (b x
             next_is ∙ ap (next key prefix n) (sym (ap (λ (l : List ℕ). l ++ drop (k + j) x) filled.1 ∙ append_assoc b (take (k + j) x) (drop (k + j) x) ∙ ap (λ (l : List ℕ). b ++ l) (take-append-drop (k + j) x)))
             ∙ next-append key prefix n g (drop (k + j) x) whole ∙ frame_is ∙ ap (of_message d.last) (message_is nonce None is u);
         due = refl;
-        count = omega (arith, ap length left, length-take (length b) w, len_b, whole_len all);
+        count = omega (arith, ap length left, length-take (length b) w, len);
         frames = refl;
         ended = refl;
         out = out;

@@ -60,7 +60,6 @@ pub fn write(
     let (head_out, rest) = out.split_at_mut(HEAD_BYTES);
     let (text, tag_out) = rest.split_at_mut(piece.len());
     head_out.copy_from_slice(&head);
-    text.copy_from_slice(piece);
-    let tag = Aegis128L::<16>::new(key, &nonce(prefix, number)).encrypt_in_place(text, &head);
+    let tag = Aegis128L::<16>::new(key, &nonce(prefix, number)).encrypt_into(piece, text, &head);
     tag_out.copy_from_slice(&tag);
 }

@@ -75,9 +75,75 @@ impl Pending {
         self.filled = len;
     }
 
-    // Opens the frame that is there, whose message has `len` bytes, into the front of `out`: whether a message
-    // has its cipher text and tag. Where none has, `out` stays, and of the frame the head and the length.
-    pub fn open(&mut self, key: &[u8; 16], nonce: &[u8; 16], len: usize, out: &mut [u8]) -> bool
+    // Opens the frame that begins with the bytes that are there and ends with `rest`, and whose message has `len`
+    // bytes, into the front of `out`: whether a message has its cipher text and tag. Where none has, `out` stays,
+    // and the head and the bytes that are there are as many as before at least.
+    pub fn open(
+        &mut self,
+        key: &[u8; 16],
+        nonce: &[u8; 16],
+        len: usize,
+        rest: &[u8],
+        out: &mut [u8],
+    ) -> bool
+        requires head { 5 ≤ length self.old }
+        requires whole { length self.old + length rest.now ≡ 21 + len }
+        requires most { len ≤ 65536 }
+        requires room { len ≤ length out.old }
+        ensures message { OnTrue result (Unseals Aegis128L 16 key.now nonce.now (take 5 (self.old ++ rest.now)) (take len (drop 5 (self.old ++ rest.now)))
+            (take 16 (drop (5 + len) (self.old ++ rest.now))) (Some (take len out.new))) }
+        ensures emptied { OnTrue result (self.new ≡ []) }
+        ensures none { OnFalse result (Unseals Aegis128L 16 key.now nonce.now (take 5 (self.old ++ rest.now)) (take len (drop 5 (self.old ++ rest.now)))
+            (take 16 (drop (5 + len) (self.old ++ rest.now))) None) }
+        ensures count { OnFalse result (length self.old ≤ length self.new) }
+        ensures head { OnFalse result (take 5 self.new ≡ take 5 self.old) }
+        ensures out { OnFalse result (out.new ≡ out.old) }
+        ensures rest { drop len out.new ≡ drop len out.old }
+    {
+        if self.filled == HEAD_BYTES {
+            return self.open_behind(key, nonce, len, rest, out);
+        }
+        self.fill(rest, FRAME_BYTES + len);
+        self.open_filled(key, nonce, len, out)
+    }
+
+    // The same where the head alone is there: the message is decrypted on its way into the buffer.
+    fn open_behind(
+        &mut self,
+        key: &[u8; 16],
+        nonce: &[u8; 16],
+        len: usize,
+        rest: &[u8],
+        out: &mut [u8],
+    ) -> bool
+        requires head { length self.old ≡ 5 }
+        requires whole { length rest.now ≡ 16 + len }
+        requires most { len ≤ 65536 }
+        requires room { len ≤ length out.old }
+        ensures message { OnTrue result (Unseals Aegis128L 16 key.now nonce.now self.old (take len rest.now) (drop len rest.now) (Some (take len out.new))) }
+        ensures emptied { OnTrue result (self.new ≡ []) }
+        ensures none { OnFalse result (Unseals Aegis128L 16 key.now nonce.now self.old (take len rest.now) (drop len rest.now) None) }
+        ensures stays { OnFalse result (self.new ≡ self.old) }
+        ensures out { OnFalse result (out.new ≡ out.old) }
+        ensures rest { drop len out.new ≡ drop len out.old }
+    {
+        let (text, end) = rest.split_at(len);
+        let mut tag = [0u8; 16];
+        tag.copy_from_slice(end);
+        let (head, room) = self.buffer.split_at_mut(HEAD_BYTES);
+        let (message, _) = room.split_at_mut(len);
+        match Aegis128L::<16>::new(key, nonce).decrypt_into(text, message, &tag, head) {
+            Ok(()) => {
+                out[..len].copy_from_slice(message);
+                self.filled = 0;
+                true
+            }
+            Err(_) => false,
+        }
+    }
+
+    // The same where the frame is there whole.
+    fn open_filled(&mut self, key: &[u8; 16], nonce: &[u8; 16], len: usize, out: &mut [u8]) -> bool
         requires whole { length self.old ≡ 21 + len }
         requires room { len ≤ length out.old }
         ensures message { OnTrue result (Unseals Aegis128L 16 key.now nonce.now (take 5 self.old) (take len (drop 5 self.old)) (take 16 (drop (5 + len) self.old)) (Some (take len out.new))) }

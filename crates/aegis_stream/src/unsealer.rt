@@ -74,19 +74,24 @@ impl Unsealer {
                 return Err(refusal);
             }
         };
-        let taken = front + self.pending.fill(&input[front..], FRAME_BYTES + head.len);
-        if self.pending.len() < FRAME_BYTES + head.len {
-            return Ok(kept(taken));
+        let rest = &input[front..];
+        let missing = FRAME_BYTES + head.len - self.pending.len();
+        if rest.len() < missing {
+            let more = self.pending.fill(rest, FRAME_BYTES + head.len);
+            return Ok(kept(front + more));
         }
         let nonce = nonce(prefix, self.frames);
-        if !self.pending.open(key, &nonce, head.len, out) {
+        if !self
+            .pending
+            .open(key, &nonce, head.len, &rest[..missing], out)
+        {
             self.pending.truncate(begun);
             return Err(StreamError::InvalidTag);
         }
         self.frames += 1;
         self.ended = head.last;
         Ok(Fed {
-            taken,
+            taken: front + missing,
             written: head.len,
             ended: head.last,
         })

@@ -86,6 +86,10 @@ pub rooms_next : (n : ℕ) (commands : List Command) (i : ℕ) (c : Command) →
 rooms_next n commands i c lt is =
     ap (map (room_for n)) (drop_more commands i c lt) ∙ ap (λ (x : Command). room_for n x ∷ map (room_for n) (drop (i + 1) commands)) (sym is)
 
+pub total_next : (n : ℕ) (commands : List Command) (i : ℕ) (c : Command) → i < length commands → c ≡ get_or commands i c
+    → room_total n (drop i commands) ≡ room_total n (c ∷ drop (i + 1) commands)
+total_next n commands i c lt is = ap (room_total n) (drop_more commands i c lt) ∙ ap (λ (x : Command). room_total n (x ∷ drop (i + 1) commands)) (sym is)
+
 pub commands_next : (commands : List Command) (i : ℕ) (c : Command) → i < length commands → c ≡ get_or commands i c → take (i + 1) commands ≡ take i commands ++ c ∷ []
 commands_next commands i c lt is = take_more commands i c lt ∙ ap (λ (x : Command). take i commands ++ x ∷ []) (sym is)
 

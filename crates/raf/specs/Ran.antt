@@ -1,5 +1,5 @@
 -- Commands on an open file, one after the other: what the code of a session hands on (this project's own).
-use Rattle.std.specs.Prelude.{◌≡◌, ℕ, true, false, List, length, Option, Some, Result}
+use Rattle.std.specs.Prelude.{◌≡◌, ℕ, true, false, List, length, Option, Some, Result, IfOk, IfErr}
 use Rattle.raf_io.specs.Source.{Takes}
 use Rattle.raf_tree.specs.Hashing.{Hashing}
 use Rattle.raf_format.specs.Cipher.{Cipher}
@@ -11,7 +11,9 @@ use Rattle.raf.specs.Handle.{Handle, Holds, WithTree, Grown, limit_of}
 use Rattle.raf.specs.Session.{Ground, AllAnswer, AllAuthentic, settled_after, IsDurable, Ran}
 use Rattle.raf.specs.declared.command.Command.{Command}
 use Rattle.raf.specs.declared.command.Reply.{Reply}
+use Rattle.raf_io.specs.Kinds.{kind_of}
 use Rattle.raf_io.specs.declared.errors.Error.{Error}
+use Rattle.raf_io.specs.declared.errors.ErrorKind.TheVariants.{OutOfMemory}
 
 -- what a session on this handle stands on
 abbrev pub ground : Cipher → (List ℕ → Hashing) → Handle → Ground
@@ -51,3 +53,8 @@ Ended C E old new commands replies =
 pub record End : Type 0 where
   pub outcome : Result (List Reply) Error
   pub outside : Outside
+
+-- commands on a file that was opened: they were answered, or no memory was found for the replies, and then nothing happened
+pub record Serves (C : Cipher) (E : List ℕ → Hashing) (old : Handle) (commands : List Command) (after : Outside) (outcome : Result (List Reply) Error) : Type 0 where
+  pub answered : IfOk outcome (λ replies. (now : Handle) × Ended C E old now commands replies × (after ≡ now.outside))
+  pub none : IfErr outcome (λ e. (kind_of e ≡ OutOfMemory) × (after ≡ old.outside))

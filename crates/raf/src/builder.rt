@@ -1,6 +1,7 @@
 //! What a file is made and opened with.
 ghost use Rattle.std.specs.Prelude.{◌≡◌, ◌+◌, List, ℕ, Some, None, Option, IfOk, IfErr, true, false};
 ghost use Rattle.raf_format.specs.Cipher.{cipher_of};
+ghost use Rattle.raf.specs.Handle.{hash_len_of};
 ghost use Rattle.raf.specs.Outside.{over_storage};
 ghost use Rattle.raf.specs.Opening.{Opened, NotOpened, Made, NotMade, IsNewBuilder};
 ghost use Rattle.raf_format.specs.Version.{version_number};
@@ -210,6 +211,30 @@ impl<A: Algorithm, R: RafRng, H: MerkleHasher> RafBuilder<A, R, H> {
             fresh,
             algorithm: PhantomData,
         }
+    }
+
+    /// How long a hash of the hasher is, and 0 without a hasher.
+    pub(crate) fn hash_len(&self) -> usize
+        ensures { result ≡ hash_len_of H.hashing self.now.outside.setting }
+    {
+        match &self.hasher {
+            Some(hasher) => hasher.hash_len(),
+            None => 0,
+        }
+    }
+
+    /// What the builder holds, and a storage.
+    pub(crate) fn into_parts<I: RafIo>(self, io: I) -> Parts<I, R, H>
+        ensures { result ≡ over_storage (I.bytes io) (I.durable io) (I.faults io) (I.reach io) (I.traffic io) (I.changes io) (I.strays io) self.outside }
+    {
+        let RafBuilder {
+            rng,
+            hasher,
+            most: _,
+            fresh: _,
+            algorithm: _,
+        } = self;
+        Parts { io, rng, hasher }
     }
 
     /// Makes an empty file in `io`, under `key`, of the version and the chunk size that were set. A storage that isn't empty is written

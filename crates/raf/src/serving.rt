@@ -1,11 +1,11 @@
 //! Commands on an open file, answered in order up to the first fault.
-ghost use Rattle.std.specs.Prelude.{◌≡◌, ◌+◌, ◌≤◌, List, ℕ, [], length, take, replicate, map, Option, Some, vec_capacity, IfOk};
+ghost use Rattle.std.specs.Prelude.{◌≡◌, ◌+◌, ◌≤◌, List, ℕ, [], length, take, replicate, map, Option, Some, vec_capacity, IfOk, IsOkAnd, IsTrue, ◌↔◌, ◌<◌, ◌^◌};
 ghost use Rattle.raf_format.specs.Cipher.{cipher_of};
 ghost use Rattle.raf.specs.Stepped.{Stepped, done_reply, write_reply, verify_reply};
 ghost use Rattle.raf.specs.Handle.{Handle, hash_len_of};
-ghost use Rattle.raf.specs.Session.{room_of, room_for, Meets};
+ghost use Rattle.raf.specs.Session.{room_of, room_for, room_total, Meets};
 ghost use Rattle.raf.specs.Outside.{over_storage};
-ghost use Rattle.raf.specs.Ran.{Ended};
+ghost use Rattle.raf.specs.Ran.{Ended, Serves};
 
 use crate::builder::{OpenError, RafBuilder};
 use crate::command::{Command, Replies, Reply};
@@ -15,7 +15,7 @@ use crate::outside::Parts;
 use raf_format::Algorithm;
 use raf_io::{Error, RafIo, RafRng};
 use raf_tree::MerkleHasher;
-use std::alloc::Global;
+use std::alloc::{AllocError, Global};
 use std::collections::VecDeque;
 use std::marker::Model;
 
@@ -188,6 +188,70 @@ impl<I: RafIo, R: RafRng, H: MerkleHasher> SessionEnd<I, R, H> {
     }
 }
 
+// How many bytes the reply to a command has at most, with hashes of this length.
+fn reply_len(command: &Command, hash_len: usize) -> usize
+    ensures { result ≡ room_of hash_len command.now }
+{
+    match command {
+        Command::Read { offset: _, len } => *len,
+        Command::Commitment => hash_len,
+        _ => 0,
+    }
+}
+
+// The lengths of all replies fit.
+fn replies_fit(commands: &[Command], hash_len: usize) -> bool
+    ensures { IsTrue result ↔ (room_total hash_len commands.now < 2 ^ 64) }
+{
+    let mut total = 0usize;
+    for command in commands {
+        match total.checked_add(reply_len(command, hash_len)) {
+            Some(more) => total = more,
+            None => return false,
+        }
+    }
+    true
+}
+
+// Room for the reply to a command.
+fn room_of(alloc: Global, command: &Command, hash_len: usize) -> Result<Data, AllocError>
+    ensures { IfOk result (λ room. room ≡ room_for hash_len command.now) }
+{
+    let mut room = Vec::new(alloc);
+    room.resize(reply_len(command, hash_len), 0)?;
+    Ok(Data::from_vec(room))
+}
+
+// Room for the reply to each command.
+fn rooms_of(
+    alloc: Global,
+    commands: &[Command],
+    hash_len: usize,
+) -> Result<VecDeque<Data>, AllocError>
+    ensures { IfOk result (λ rooms. rooms.items ≡ map (room_for hash_len) commands.now) }
+{
+    let mut rooms = VecDeque::new(alloc);
+    for command in commands {
+        rooms.push_back(room_of(alloc, command, hash_len)?)?;
+    }
+    Ok(rooms)
+}
+
+// All the memory of the replies.
+fn rooms_and_replies(
+    alloc: Global,
+    commands: &[Command],
+    hash_len: usize,
+) -> Result<(VecDeque<Data>, Vec<Reply>), AllocError>
+    ensures rooms { IfOk result (λ p. p.0.items ≡ map (room_for hash_len) commands.now) }
+    ensures none { IfOk result (λ p. p.1.items ≡ []) }
+    ensures capacity { IfOk result (λ p. length commands.now ≤ vec_capacity p.1) }
+{
+    let rooms = rooms_of(alloc, commands, hash_len)?;
+    let replies = Vec::with_capacity(alloc, commands.len())?;
+    Ok((rooms, replies))
+}
+
 // Runs commands on a file that was opened, and hands it back.
 fn run_on<A: Algorithm, I: RafIo, R: RafRng, H: MerkleHasher>(
     mut file: Raf<A, I, R, H>,
@@ -198,13 +262,36 @@ fn run_on<A: Algorithm, I: RafIo, R: RafRng, H: MerkleHasher>(
     requires rooms { rooms.items ≡ map (room_for (hash_len_of H.hashing file.outside.setting)) commands.now }
     requires none { replies.items ≡ [] }
     requires capacity { length commands.now ≤ vec_capacity replies }
-    ensures { IfOk result.outcome (λ answers. (now : Handle) × Ended (cipher_of A.variant) H.hashing file now commands.now answers × (result.outside ≡ now.outside)) }
+    ensures { IsOkAnd result.outcome (λ answers. (now : Handle) × Ended (cipher_of A.variant) H.hashing file now commands.now answers × (result.outside ≡ now.outside)) }
 {
     let replies = answer_all::<A, I, R, H>(&mut file, commands, rooms, replies);
     SessionEnd::<I, R, H>::of(Ok(Replies::from_vec(replies)), file.close())
 }
 
-/// Opens the encrypted file in `io` under `key`, and answers the commands in order.
+// Commands on a file that was opened, with room for the replies if there is any.
+fn serve<A: Algorithm, I: RafIo, R: RafRng, H: MerkleHasher>(
+    alloc: Global,
+    file: Raf<A, I, R, H>,
+    commands: &[Command],
+    hash_len: usize,
+) -> SessionEnd<I, R, H>
+    requires { hash_len ≡ hash_len_of H.hashing file.outside.setting }
+    ensures { Serves (cipher_of A.variant) H.hashing file commands.now result.outside result.outcome }
+{
+    match rooms_and_replies(alloc, commands, hash_len) {
+        Ok((rooms, replies)) => run_on::<A, I, R, H>(file, commands, rooms, replies),
+        Err(_) => SessionEnd::<I, R, H>::of(Err(Error::OutOfMemory), file.close()),
+    }
+}
+
+/// Opens the encrypted file in `io` under `key`, and answers the commands in order. A refused command is a reply, and the next one runs;
+/// a fault of the storage, the random source or the hasher ends the run as the last reply. All memory is taken before the first command:
+/// the room for what is read has the full lengths asked, so ask `Size` before reading a whole file. Storage, random source and hasher
+/// come back in every case.
+///
+/// The outcome is an error where nothing was answered and nothing changed: `Overflow` where the lengths of all reads, and with a hasher
+/// a hash for each commitment, add up to more than a `usize` has; else the refusals of [`RafBuilder::open`]; `OutOfMemory` where no
+/// memory was found.
 pub fn session<A: Algorithm, I: RafIo, R: RafRng, H: MerkleHasher>(
     alloc: Global,
     builder: RafBuilder<A, R, H>,
@@ -216,8 +303,12 @@ pub fn session<A: Algorithm, I: RafIo, R: RafRng, H: MerkleHasher>(
         (over_storage (I.bytes io) (I.durable io) (I.faults io) (I.reach io) (I.traffic io) (I.changes io) (I.strays io) builder.outside)
         result.outside result.outcome }
 {
+    let hash_len = builder.hash_len();
+    if !replies_fit(commands, hash_len) {
+        return SessionEnd::<I, R, H>::of(Err(Error::Overflow), builder.into_parts::<I>(io));
+    }
     match builder.open::<I>(alloc, io, key) {
-        Ok(file) => run_on::<A, I, R, H>(file, commands, VecDeque::new(alloc), Vec::new(alloc)),
+        Ok(file) => serve::<A, I, R, H>(alloc, file, commands, hash_len),
         Err(refused) => {
             let OpenError {
                 error,

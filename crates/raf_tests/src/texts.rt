@@ -81,7 +81,6 @@ fn faults_are_printed(rt: HostRuntime) -> Result<(), Fail> {
     assert!(rt; prints(alloc, Error::Hash, "hasher error")?);
     assert!(rt; prints(alloc, Error::Broken, "file handle is broken")?);
     assert!(rt; prints(alloc, Error::OutOfMemory, "out of memory")?);
-    assert!(rt; prints(alloc, Error::Unbuilt, "not built yet")?);
     Ok(())
 }
 

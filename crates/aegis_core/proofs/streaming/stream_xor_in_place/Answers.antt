@@ -1,40 +1,21 @@
 use Rattle.aegis_core.specs.declared.variant.Variant.TheVariants.{Aegis128L, Aegis128X2, Aegis128X4, Aegis256, Aegis256X2, Aegis256X4}
-use Rattle.aegis_core.specs.Sealing.{family_of}
-use Rattle.aegis_core.proofs.VariantLemmas.{started, xor_stream_as}
+use Rattle.aegis_core.proofs.VariantLemmas.{xor_stream_as}
 use Rattle.aegis_core.proofs.streaming.stream_xor_in_place.Goals as goal
 
 pub returns-in-Aegis128L : goal.returns-in-Aegis128L
-returns-in-Aegis128L c =
-    let s = c.started_128.ensures in
-    xor_stream_as c.args.variant Aegis128L _ c.args.key.now c.args.nonce.now c.args.mc.now _ c.in-Aegis128L.is s.family
-    (c.xor_stream_lanes.ensures c.args.key.now c.args.nonce.now (started (family_of Aegis128L) _ _ c.args.key.now c.args.nonce.now s.family s.initial))
+returns-in-Aegis128L c = xor_stream_as c.args.variant Aegis128L _ c.args.key.now c.args.nonce.now c.args.mc.now _ c.in-Aegis128L.is c.blank.ensures c.xor_stream_lanes.ensures
 
 pub returns-in-Aegis128X2 : goal.returns-in-Aegis128X2
-returns-in-Aegis128X2 c =
-    let s = c.started_128-in-Aegis128X2.ensures in
-    xor_stream_as c.args.variant Aegis128X2 _ c.args.key.now c.args.nonce.now c.args.mc.now _ c.in-Aegis128X2.is s.family
-    (c.xor_stream_lanes-in-Aegis128X2.ensures c.args.key.now c.args.nonce.now (started (family_of Aegis128X2) _ _ c.args.key.now c.args.nonce.now s.family s.initial))
+returns-in-Aegis128X2 c = xor_stream_as c.args.variant Aegis128X2 _ c.args.key.now c.args.nonce.now c.args.mc.now _ c.in-Aegis128X2.is c.blank-in-Aegis128X2.ensures c.xor_stream_lanes-in-Aegis128X2.ensures
 
 pub returns-in-Aegis128X4 : goal.returns-in-Aegis128X4
-returns-in-Aegis128X4 c =
-    let s = c.started_128-in-Aegis128X4.ensures in
-    xor_stream_as c.args.variant Aegis128X4 _ c.args.key.now c.args.nonce.now c.args.mc.now _ c.in-Aegis128X4.is s.family
-    (c.xor_stream_lanes-in-Aegis128X4.ensures c.args.key.now c.args.nonce.now (started (family_of Aegis128X4) _ _ c.args.key.now c.args.nonce.now s.family s.initial))
+returns-in-Aegis128X4 c = xor_stream_as c.args.variant Aegis128X4 _ c.args.key.now c.args.nonce.now c.args.mc.now _ c.in-Aegis128X4.is c.blank-in-Aegis128X4.ensures c.xor_stream_lanes-in-Aegis128X4.ensures
 
 pub returns-in-Aegis256 : goal.returns-in-Aegis256
-returns-in-Aegis256 c =
-    let s = c.started_256.ensures in
-    xor_stream_as c.args.variant Aegis256 _ c.args.key.now c.args.nonce.now c.args.mc.now _ c.in-Aegis256.is s.family
-    (c.xor_stream_lanes-in-Aegis256.ensures c.args.key.now c.args.nonce.now (started (family_of Aegis256) _ _ c.args.key.now c.args.nonce.now s.family s.initial))
+returns-in-Aegis256 c = xor_stream_as c.args.variant Aegis256 _ c.args.key.now c.args.nonce.now c.args.mc.now _ c.in-Aegis256.is c.blank-in-Aegis256.ensures c.xor_stream_lanes-in-Aegis256.ensures
 
 pub returns-in-Aegis256X2 : goal.returns-in-Aegis256X2
-returns-in-Aegis256X2 c =
-    let s = c.started_256-in-Aegis256X2.ensures in
-    xor_stream_as c.args.variant Aegis256X2 _ c.args.key.now c.args.nonce.now c.args.mc.now _ c.in-Aegis256X2.is s.family
-    (c.xor_stream_lanes-in-Aegis256X2.ensures c.args.key.now c.args.nonce.now (started (family_of Aegis256X2) _ _ c.args.key.now c.args.nonce.now s.family s.initial))
+returns-in-Aegis256X2 c = xor_stream_as c.args.variant Aegis256X2 _ c.args.key.now c.args.nonce.now c.args.mc.now _ c.in-Aegis256X2.is c.blank-in-Aegis256X2.ensures c.xor_stream_lanes-in-Aegis256X2.ensures
 
 pub returns-in-Aegis256X4 : goal.returns-in-Aegis256X4
-returns-in-Aegis256X4 c =
-    let s = c.started_256-in-Aegis256X4.ensures in
-    xor_stream_as c.args.variant Aegis256X4 _ c.args.key.now c.args.nonce.now c.args.mc.now _ c.in-Aegis256X4.is s.family
-    (c.xor_stream_lanes-in-Aegis256X4.ensures c.args.key.now c.args.nonce.now (started (family_of Aegis256X4) _ _ c.args.key.now c.args.nonce.now s.family s.initial))
+returns-in-Aegis256X4 c = xor_stream_as c.args.variant Aegis256X4 _ c.args.key.now c.args.nonce.now c.args.mc.now _ c.in-Aegis256X4.is c.blank-in-Aegis256X4.ensures c.xor_stream_lanes-in-Aegis256X4.ensures

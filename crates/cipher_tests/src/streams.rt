@@ -2,10 +2,9 @@
 
 ghost use Rattle.std.specs.Prelude.{◌^◌, ◌<◌, length};
 
-use super::{step_through, stepped};
 use aegis_128::{aegis128l, aegis128x2, aegis128x4};
 use aegis_256::{aegis256, aegis256x2, aegis256x4};
-use aegis_core::{Cipher, CipherKind, LaneState};
+use aegis_core::{Cipher, CipherKind, LaneState, SoftLanes128, SoftLanes256};
 use std::alloc::Global;
 use std::process::Abort;
 use std::test::Fail;
@@ -82,68 +81,37 @@ fn agrees<K: CipherKind<S, KEY_BYTES>, S: LaneState, const KEY_BYTES: usize>(
     requires { n < 2 ^ 61 }
 {
     let mut message = Vec::from_elem(alloc, 0u8, n)?;
-    step_through(&mut message, 13, 1);
+    let mut byte = 1u8;
+    for place in message.iter_mut() {
+        *place = byte;
+        byte = byte.wrapping_add(13);
+    }
     streams(rt, alloc, short, long, &message)?;
     allocates(rt, alloc, short, &message)
 }
 
+// So it is at each length up to a few blocks, and at two long ones.
 fn agrees_at_each_length<K: CipherKind<S, KEY_BYTES>, S: LaneState, const KEY_BYTES: usize>(
     rt: &impl Abort,
     alloc: Global,
-    short: &Cipher<K, S, KEY_BYTES, 16>,
-    long: &Cipher<K, S, KEY_BYTES, 32>,
 ) -> Result<(), Fail> {
+    let (key, nonce) = ([5; KEY_BYTES], [11; KEY_BYTES]);
+    let short = Cipher::<K, S, KEY_BYTES, 16>::new(&key, &nonce);
+    let long = Cipher::<K, S, KEY_BYTES, 32>::new(&key, &nonce);
     for n in 0..516 {
-        agrees(rt, alloc, short, long, n)?;
+        agrees(rt, alloc, &short, &long, n)?;
     }
-    agrees(rt, alloc, short, long, 65536)?;
-    agrees(rt, alloc, short, long, 70001)
+    agrees(rt, alloc, &short, &long, 65536)?;
+    agrees(rt, alloc, &short, &long, 70001)
 }
 
 #[test]
-fn the_keystream_of_aegis128l_agrees_with_sealing(rt: HostRuntime) -> Result<(), Fail> {
-    let (key, nonce) = (stepped(13, 5), stepped(13, 11));
-    let short = aegis128l::Aegis128L::<16>::new(&key, &nonce);
-    let long = aegis128l::Aegis128L::<32>::new(&key, &nonce);
-    agrees_at_each_length(&rt, rt.alloc(), &short, &long)
-}
-
-#[test]
-fn the_keystream_of_aegis128x2_agrees_with_sealing(rt: HostRuntime) -> Result<(), Fail> {
-    let (key, nonce) = (stepped(13, 5), stepped(13, 11));
-    let short = aegis128x2::Aegis128X2::<16>::new(&key, &nonce);
-    let long = aegis128x2::Aegis128X2::<32>::new(&key, &nonce);
-    agrees_at_each_length(&rt, rt.alloc(), &short, &long)
-}
-
-#[test]
-fn the_keystream_of_aegis128x4_agrees_with_sealing(rt: HostRuntime) -> Result<(), Fail> {
-    let (key, nonce) = (stepped(13, 5), stepped(13, 11));
-    let short = aegis128x4::Aegis128X4::<16>::new(&key, &nonce);
-    let long = aegis128x4::Aegis128X4::<32>::new(&key, &nonce);
-    agrees_at_each_length(&rt, rt.alloc(), &short, &long)
-}
-
-#[test]
-fn the_keystream_of_aegis256_agrees_with_sealing(rt: HostRuntime) -> Result<(), Fail> {
-    let (key, nonce) = (stepped(13, 5), stepped(13, 11));
-    let short = aegis256::Aegis256::<16>::new(&key, &nonce);
-    let long = aegis256::Aegis256::<32>::new(&key, &nonce);
-    agrees_at_each_length(&rt, rt.alloc(), &short, &long)
-}
-
-#[test]
-fn the_keystream_of_aegis256x2_agrees_with_sealing(rt: HostRuntime) -> Result<(), Fail> {
-    let (key, nonce) = (stepped(13, 5), stepped(13, 11));
-    let short = aegis256x2::Aegis256X2::<16>::new(&key, &nonce);
-    let long = aegis256x2::Aegis256X2::<32>::new(&key, &nonce);
-    agrees_at_each_length(&rt, rt.alloc(), &short, &long)
-}
-
-#[test]
-fn the_keystream_of_aegis256x4_agrees_with_sealing(rt: HostRuntime) -> Result<(), Fail> {
-    let (key, nonce) = (stepped(13, 5), stepped(13, 11));
-    let short = aegis256x4::Aegis256X4::<16>::new(&key, &nonce);
-    let long = aegis256x4::Aegis256X4::<32>::new(&key, &nonce);
-    agrees_at_each_length(&rt, rt.alloc(), &short, &long)
+fn keystreams_agree_with_sealing(rt: HostRuntime) -> Result<(), Fail> {
+    let alloc = rt.alloc();
+    agrees_at_each_length::<aegis128l::Kind, SoftLanes128, 16>(&rt, alloc)?;
+    agrees_at_each_length::<aegis128x2::Kind, SoftLanes128, 16>(&rt, alloc)?;
+    agrees_at_each_length::<aegis128x4::Kind, SoftLanes128, 16>(&rt, alloc)?;
+    agrees_at_each_length::<aegis256::Kind, SoftLanes256, 32>(&rt, alloc)?;
+    agrees_at_each_length::<aegis256x2::Kind, SoftLanes256, 32>(&rt, alloc)?;
+    agrees_at_each_length::<aegis256x4::Kind, SoftLanes256, 32>(&rt, alloc)
 }

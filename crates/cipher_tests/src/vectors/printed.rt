@@ -1,24 +1,6 @@
 //! The vectors that the AEGIS specification prints in its appendix "Test Vectors", in hex.
 
-/// A message and what it seals to.
-pub struct Sealed {
-    pub key: &'static str,
-    pub nonce: &'static str,
-    pub ad: &'static str,
-    pub message: &'static str,
-    pub text: &'static str,
-    pub short_tag: &'static str,
-    pub long_tag: &'static str,
-}
-
-/// A text and its MAC.
-pub struct Tagged {
-    pub key: &'static str,
-    pub nonce: &'static str,
-    pub text: &'static str,
-    pub short_tag: &'static str,
-    pub long_tag: &'static str,
-}
+use super::{Sealed, Tagged};
 
 pub const AEGIS_128L: [Sealed; 5] = [
     Sealed {
@@ -200,18 +182,18 @@ pub const AEGIS_256X4: [Sealed; 2] = [
     },
 ];
 
-pub const AEGIS_128L_MAC: Tagged = Tagged {
+pub const AEGIS_128L_MACS: [Tagged; 1] = [Tagged {
     key: "10010000000000000000000000000000",
     nonce: "10000200000000000000000000000000",
     text: "000102030405060708090a0b0c0d0e0f101112131415161718191a1b1c1d1e1f202122",
     short_tag: "d3f09b2842ad301687d6902c921d7818",
     long_tag: "9490e7c89d420c9f37417fa625eb38e8cad53c5cbec55285e8499ea48377f2a3",
-};
+}];
 
-pub const AEGIS_256_MAC: Tagged = Tagged {
+pub const AEGIS_256_MACS: [Tagged; 1] = [Tagged {
     key: "1001000000000000000000000000000000000000000000000000000000000000",
     nonce: "1000020000000000000000000000000000000000000000000000000000000000",
     text: "000102030405060708090a0b0c0d0e0f101112131415161718191a1b1c1d1e1f202122",
     short_tag: "c08e20cfc56f27195a46c9cef5c162d4",
     long_tag: "a5c906ede3d69545c11e20afa360b221f936e946ed2dba3d7c75ad6dc2784126",
-};
+}];

@@ -1,0 +1,339 @@
+//! Figures of an independent program, in hex.
+
+use super::{Sealed, Tagged};
+
+pub const AEGIS_128L: [Sealed; 4] = [
+    Sealed {
+        key: "030a11181f262d343b424950575e656c",
+        nonce: "010c17222d38434e59646f7a85909ba6",
+        ad: "",
+        message: "",
+        text: "",
+        short_tag: "de41c2f08f30ebe7ac5bb20334ebcb14",
+        long_tag: "4ddfd390acc562643bdbb3f25a6cc40a5caf997c030e19aa085f827f6a7b1dee",
+    },
+    Sealed {
+        key: "030a11181f262d343b424950575e656c",
+        nonce: "010c17222d38434e59646f7a85909ba6",
+        ad: "02070c1116",
+        message: "09",
+        text: "72",
+        short_tag: "88ddb0574e5a7b126b91b74effc19a18",
+        long_tag: "756e9e25d885cec77c9d3744174a954ef5d636b42e16cbf236f6f40c34388f4b",
+    },
+    Sealed {
+        key: "030a11181f262d343b424950575e656c",
+        nonce: "010c17222d38434e59646f7a85909ba6",
+        ad: "",
+        message: "090c0f1215181b1e2124272a2d303336393c3f4245484b4e5154575a5d60636669",
+        text: "a1e09ed6e0de63480f4e265e21ec115ca927203e6f1988d90197c32645cee01012",
+        short_tag: "9282bd339b5a663a63e9550f0f02ccb3",
+        long_tag: "a6af565337a2e05c373049ef33d8f444da34c36b78c9642bdcce06287fad9297",
+    },
+    Sealed {
+        key: "030a11181f262d343b424950575e656c",
+        nonce: "010c17222d38434e59646f7a85909ba6",
+        ad: "02070c11161b20252a2f34393e43484d52575c61666b70757a7f84898e93989da2a7acb1b6bbc0c5",
+        message: "090c0f1215181b1e2124272a2d303336393c3f4245484b4e5154575a5d606366696c6f7275787b7e8184878a8d909396999c9fa2a5a8abaeb1b4b7babdc0c3c6c9cccfd2d5d8dbdee1e4e7eaedf0f3f6f9fcff0205080b0e1114171a1d202326292c2f3235383b3e4144474a4d505356595c5f6265686b6e7174777a7d808386898c",
+        text: "2661f3bc47a761e57bb1b867cb5499a585949c9e34a9be7f300666f277011a4e216afeedefad1f37bcd4918afb89caf77d3e1b93c27901152cdad112208e628c4abe636a9ed2b23bf77927f87a462097b41c2bbe8b5f62b4429745d7718a795eeb0fce719ab455768e3bafae3348e05479b33ec3ce212b0216acf0a5cc4ad8f423ac",
+        short_tag: "07ec78a2bf9007e6271e4ceda340947c",
+        long_tag: "49fb8d8816cb345d0a1cb68b44bf92f7fd2c599847b93c8053d7acf91fdefb56",
+    },
+];
+
+pub const AEGIS_128X2: [Sealed; 4] = [
+    Sealed {
+        key: "030a11181f262d343b424950575e656c",
+        nonce: "010c17222d38434e59646f7a85909ba6",
+        ad: "",
+        message: "",
+        text: "",
+        short_tag: "a58689b429813a28eae8dd1e860cdcba",
+        long_tag: "63fa23531ef21ca00d1e94be02293782af9886c0d61452acd2b4375dc9e7ab3f",
+    },
+    Sealed {
+        key: "030a11181f262d343b424950575e656c",
+        nonce: "010c17222d38434e59646f7a85909ba6",
+        ad: "02070c1116",
+        message: "09",
+        text: "69",
+        short_tag: "375d5bc2ca3fa1ba171954061d234e16",
+        long_tag: "74d4d7fae3b8f174066f5b947c1f5fd365500018a3c82de688b6c0c352fbe5c6",
+    },
+    Sealed {
+        key: "030a11181f262d343b424950575e656c",
+        nonce: "010c17222d38434e59646f7a85909ba6",
+        ad: "",
+        message: "090c0f1215181b1e2124272a2d303336393c3f4245484b4e5154575a5d60636669",
+        text: "b02670e46c0a2b9afa3d93f78ced538de165564552d842319cceb403ebe3e73b46",
+        short_tag: "aff5100043e22120b8836b5a3adae8b6",
+        long_tag: "59da8615afc5704bcde1ea5ebbf9e125806c1562969428f39168614d41938655",
+    },
+    Sealed {
+        key: "030a11181f262d343b424950575e656c",
+        nonce: "010c17222d38434e59646f7a85909ba6",
+        ad: "02070c11161b20252a2f34393e43484d52575c61666b70757a7f84898e93989da2a7acb1b6bbc0c5",
+        message: "090c0f1215181b1e2124272a2d303336393c3f4245484b4e5154575a5d606366696c6f7275787b7e8184878a8d909396999c9fa2a5a8abaeb1b4b7babdc0c3c6c9cccfd2d5d8dbdee1e4e7eaedf0f3f6f9fcff0205080b0e1114171a1d202326292c2f3235383b3e4144474a4d505356595c5f6265686b6e7174777a7d808386898c",
+        text: "69f6706c1ff863e5f0f79cfb97a4b49b06f12d4ea31f855fb2daa909f2d5a737acf518fef986331c8efa8516594f5aa9da0a0b9fa80c21b37f7f892261f79d51022e34d52c77b05514c98796c62fbd34f509fb0829b839cf8c4186ae92d4e35584c3e003312454ff24d7d082a8d2557465343fdf5fb9460ae7825d2fe04e5e01c780",
+        short_tag: "3f535f74f5895f553398ec0ed60275dc",
+        long_tag: "69b968dcf314a2b73de6fa5874444df4b85889e88bc0d1026a5771f20be8d489",
+    },
+];
+
+pub const AEGIS_128X4: [Sealed; 4] = [
+    Sealed {
+        key: "030a11181f262d343b424950575e656c",
+        nonce: "010c17222d38434e59646f7a85909ba6",
+        ad: "",
+        message: "",
+        text: "",
+        short_tag: "34dc997eb00722116625eb840717b2f1",
+        long_tag: "cbec59b4b7eb13eb6eba8fed6aa746834458f40c2aeb52a20df855efe6605314",
+    },
+    Sealed {
+        key: "030a11181f262d343b424950575e656c",
+        nonce: "010c17222d38434e59646f7a85909ba6",
+        ad: "02070c1116",
+        message: "09",
+        text: "c4",
+        short_tag: "1928f813f5b092d9a9ff49c8b72ee3f5",
+        long_tag: "a91c713b30723e011041608241cc3b39bac341953780569eab733e6681dc9191",
+    },
+    Sealed {
+        key: "030a11181f262d343b424950575e656c",
+        nonce: "010c17222d38434e59646f7a85909ba6",
+        ad: "",
+        message: "090c0f1215181b1e2124272a2d303336393c3f4245484b4e5154575a5d60636669",
+        text: "62533c811484565268ffe62a0cb56af1f334dc6819fb6d04f7da9ebe08199e787e",
+        short_tag: "4aee117c37649f9929bcd370b3804aa5",
+        long_tag: "08c9449400737efa9aa493fdcf7ad506cb1e1a4e95d0ad5da1d8a799f9a0b5b1",
+    },
+    Sealed {
+        key: "030a11181f262d343b424950575e656c",
+        nonce: "010c17222d38434e59646f7a85909ba6",
+        ad: "02070c11161b20252a2f34393e43484d52575c61666b70757a7f84898e93989da2a7acb1b6bbc0c5",
+        message: "090c0f1215181b1e2124272a2d303336393c3f4245484b4e5154575a5d606366696c6f7275787b7e8184878a8d909396999c9fa2a5a8abaeb1b4b7babdc0c3c6c9cccfd2d5d8dbdee1e4e7eaedf0f3f6f9fcff0205080b0e1114171a1d202326292c2f3235383b3e4144474a4d505356595c5f6265686b6e7174777a7d808386898c",
+        text: "c4df2d0e3ab12838a335a84d731f61098a63481111f577d69f7b1836675bbb2d5e1fb1f15eb9af3919a6ceba3bd54d4d36282616999010b3cfd3254a1d3fb0a4274021e09f80e44bcd1c7c974feda677f4b52f00526c7b85e43d06efac4b63f4d638475b61bd92b6629b694a60f88b2a26ce33937562a79526159accc222ea1e8110",
+        short_tag: "87a542029154c0d55b7c856c0be3d1ef",
+        long_tag: "79d959fcdd2a8979efe28490ca55c1814287db6fab0447c60e3eda54ee1e7a2f",
+    },
+];
+
+pub const AEGIS_256: [Sealed; 4] = [
+    Sealed {
+        key: "030a11181f262d343b424950575e656c737a81888f969da4abb2b9c0c7ced5dc",
+        nonce: "010c17222d38434e59646f7a85909ba6b1bcc7d2dde8f3fe09141f2a35404b56",
+        ad: "",
+        message: "",
+        text: "",
+        short_tag: "ee587efbfa9c7e29f4bce6b1b9e7eef5",
+        long_tag: "13d6a333dc86c8425bd758d409654408fd8eddc8261ab66baf6bbe65b082aafd",
+    },
+    Sealed {
+        key: "030a11181f262d343b424950575e656c737a81888f969da4abb2b9c0c7ced5dc",
+        nonce: "010c17222d38434e59646f7a85909ba6b1bcc7d2dde8f3fe09141f2a35404b56",
+        ad: "02070c1116",
+        message: "09",
+        text: "0f",
+        short_tag: "0282523268f5d4977f95b054bbed3b9b",
+        long_tag: "3ce0f8f44785b8c420dc1ce10c1395123e62aac62f706c535f49acb5b7feae89",
+    },
+    Sealed {
+        key: "030a11181f262d343b424950575e656c737a81888f969da4abb2b9c0c7ced5dc",
+        nonce: "010c17222d38434e59646f7a85909ba6b1bcc7d2dde8f3fe09141f2a35404b56",
+        ad: "",
+        message: "090c0f1215181b1e2124272a2d303336393c3f4245484b4e5154575a5d60636669",
+        text: "95de7d29e648d5228e7c8f15438e6b3c3f21a4cb357b59b4cfe9c35d25f1b3ced9",
+        short_tag: "9d7008a307b0b2cd31346b2905aadb7a",
+        long_tag: "230f661b491f49c5c2777cbafe957bd4be7f6eb84eaffb08f3431793fb3fa0ae",
+    },
+    Sealed {
+        key: "030a11181f262d343b424950575e656c737a81888f969da4abb2b9c0c7ced5dc",
+        nonce: "010c17222d38434e59646f7a85909ba6b1bcc7d2dde8f3fe09141f2a35404b56",
+        ad: "02070c11161b20252a2f34393e43484d52575c61666b70757a7f84898e93989da2a7acb1b6bbc0c5",
+        message: "090c0f1215181b1e2124272a2d303336393c3f4245484b4e5154575a5d606366696c6f7275787b7e8184878a8d909396999c9fa2a5a8abaeb1b4b7babdc0c3c6c9cccfd2d5d8dbdee1e4e7eaedf0f3f6f9fcff0205080b0e1114171a1d202326292c2f3235383b3e4144474a4d505356595c5f6265686b6e7174777a7d808386898c",
+        text: "97c030af7385467feec085b44993c0d10e8019f282ad20f5764370b58299c201c7d7840aa1e19e57d2d0f48bc165e5628d4b4ddc89f42b499ead8616dae2f8ad4d27b270cf4c900fe1acb52098d29c66300dafba69700cff0de42cd3ddbaf8a73fd9ea7a1fc3f9642a851940624570c9a6b062a12b670d8d08d7d467336a1e86d316",
+        short_tag: "4cbce50ef9230f7d69290bc99bc045fb",
+        long_tag: "680581812bb46ecf3304456ee2fbbd7f24b9648fd29761b25a2d4ea7793bf884",
+    },
+];
+
+pub const AEGIS_256X2: [Sealed; 4] = [
+    Sealed {
+        key: "030a11181f262d343b424950575e656c737a81888f969da4abb2b9c0c7ced5dc",
+        nonce: "010c17222d38434e59646f7a85909ba6b1bcc7d2dde8f3fe09141f2a35404b56",
+        ad: "",
+        message: "",
+        text: "",
+        short_tag: "39bb499d0964057e9722889e82890e7a",
+        long_tag: "32efb2d2e6a078018a4261e0bfb356710b54fb4fefc47d7f1d60e97e3d3a580b",
+    },
+    Sealed {
+        key: "030a11181f262d343b424950575e656c737a81888f969da4abb2b9c0c7ced5dc",
+        nonce: "010c17222d38434e59646f7a85909ba6b1bcc7d2dde8f3fe09141f2a35404b56",
+        ad: "02070c1116",
+        message: "09",
+        text: "42",
+        short_tag: "e515d937defc393098becb9c9b5c222d",
+        long_tag: "e32caed8a2a8e08e83bc561d63508bbb063977ef7c54d9be1b029d81f80ca996",
+    },
+    Sealed {
+        key: "030a11181f262d343b424950575e656c737a81888f969da4abb2b9c0c7ced5dc",
+        nonce: "010c17222d38434e59646f7a85909ba6b1bcc7d2dde8f3fe09141f2a35404b56",
+        ad: "",
+        message: "090c0f1215181b1e2124272a2d303336393c3f4245484b4e5154575a5d60636669",
+        text: "9740ce0ba86f6ef3cb04dd5d74b0f1debdea843bb09a98efe6eafba02e9e8d1f22",
+        short_tag: "b98e2e8bf0c5dd2e66bd109e8345f5ed",
+        long_tag: "b3a77e59fc66eb4ed2b0677a52276c630a2950d20ca33660b40d77e4d162998e",
+    },
+    Sealed {
+        key: "030a11181f262d343b424950575e656c737a81888f969da4abb2b9c0c7ced5dc",
+        nonce: "010c17222d38434e59646f7a85909ba6b1bcc7d2dde8f3fe09141f2a35404b56",
+        ad: "02070c11161b20252a2f34393e43484d52575c61666b70757a7f84898e93989da2a7acb1b6bbc0c5",
+        message: "090c0f1215181b1e2124272a2d303336393c3f4245484b4e5154575a5d606366696c6f7275787b7e8184878a8d909396999c9fa2a5a8abaeb1b4b7babdc0c3c6c9cccfd2d5d8dbdee1e4e7eaedf0f3f6f9fcff0205080b0e1114171a1d202326292c2f3235383b3e4144474a4d505356595c5f6265686b6e7174777a7d808386898c",
+        text: "6ce8d0b3ee3c4fadfcbc0eafeee696e8ba67d7c4c1fb2523d8a9f3d046f7572fac03e12afb09a2157df0fbc724de03276d5f21f1aefa16ce3ec745b74ecb2e834ecd228eddfbb9019bc4a35760c161f4e077cb486bd11c895e67dde0af97c85124ebca618f482c0a0a12fc4254e5f0ebac8ff3e7d8aa86de8752abf51d0e924751b0",
+        short_tag: "fe36a07f8b34099100f6cf98597dbdc8",
+        long_tag: "befde5264d416271879c7d4a65acec3c40cb4559c6756be0876ab2d23cd151f4",
+    },
+];
+
+pub const AEGIS_256X4: [Sealed; 4] = [
+    Sealed {
+        key: "030a11181f262d343b424950575e656c737a81888f969da4abb2b9c0c7ced5dc",
+        nonce: "010c17222d38434e59646f7a85909ba6b1bcc7d2dde8f3fe09141f2a35404b56",
+        ad: "",
+        message: "",
+        text: "",
+        short_tag: "ebbce6c1c8968880d1f44486d7f0b128",
+        long_tag: "83f4a48caf84a2249ec19241caed10036848424d67122aa44f35d6c71d1da12b",
+    },
+    Sealed {
+        key: "030a11181f262d343b424950575e656c737a81888f969da4abb2b9c0c7ced5dc",
+        nonce: "010c17222d38434e59646f7a85909ba6b1bcc7d2dde8f3fe09141f2a35404b56",
+        ad: "02070c1116",
+        message: "09",
+        text: "69",
+        short_tag: "564e73c759b68692706c87c6c8d58aff",
+        long_tag: "b9b21932e06c2c55f9cf5f3f511b1d14effc6af5b9daaac789a3d8f999ce97eb",
+    },
+    Sealed {
+        key: "030a11181f262d343b424950575e656c737a81888f969da4abb2b9c0c7ced5dc",
+        nonce: "010c17222d38434e59646f7a85909ba6b1bcc7d2dde8f3fe09141f2a35404b56",
+        ad: "",
+        message: "090c0f1215181b1e2124272a2d303336393c3f4245484b4e5154575a5d60636669",
+        text: "282ed65fa4b45ac591982f59e5bba4a903de24d0f8ff559fd820558ff3a4e80c35",
+        short_tag: "315e5b09b8e613ef80d7c9644aea3802",
+        long_tag: "47b8e7cc27eac11c778dc6f57d86816576e6bcc59f0cd2f3f75a0f91376cb967",
+    },
+    Sealed {
+        key: "030a11181f262d343b424950575e656c737a81888f969da4abb2b9c0c7ced5dc",
+        nonce: "010c17222d38434e59646f7a85909ba6b1bcc7d2dde8f3fe09141f2a35404b56",
+        ad: "02070c11161b20252a2f34393e43484d52575c61666b70757a7f84898e93989da2a7acb1b6bbc0c5",
+        message: "090c0f1215181b1e2124272a2d303336393c3f4245484b4e5154575a5d606366696c6f7275787b7e8184878a8d909396999c9fa2a5a8abaeb1b4b7babdc0c3c6c9cccfd2d5d8dbdee1e4e7eaedf0f3f6f9fcff0205080b0e1114171a1d202326292c2f3235383b3e4144474a4d505356595c5f6265686b6e7174777a7d808386898c",
+        text: "69898f00d693a0c7fce2f4b39a10ccc4fd1f9c8359da8c403ff80ec159c49763459f91b8436345fc12d2c3ea856fad94c97cf5b71cc3b5b7ee177f8be3ba7b81df8e4c87db9c8634684a44539300962f0b30b2fbbba73a765a6e32cd628c2a2a8bbe97b3b129c68a89f47733f41b1f51f4c12f45709e2810dbf2120582171e13c08f",
+        short_tag: "e15a66c3cc5a31bd87ae83cfa8c8dc90",
+        long_tag: "e73dcf45580017800d41ce87354146260667a986945a263d8aef4d489d899ab6",
+    },
+];
+
+pub const AEGIS_128L_MACS: [Tagged; 2] = [
+    Tagged {
+        key: "030a11181f262d343b424950575e656c",
+        nonce: "010c17222d38434e59646f7a85909ba6",
+        text: "",
+        short_tag: "69d84a37a8ec653c96d3c50e9733ebf5",
+        long_tag: "5c9c7aeb800f72c0c204f4f931389b1935429dfd5a6e7d80683c6f44c13a5202",
+    },
+    Tagged {
+        key: "030a11181f262d343b424950575e656c",
+        nonce: "010c17222d38434e59646f7a85909ba6",
+        text: "090c0f1215181b1e2124272a2d303336393c3f4245484b4e5154575a5d606366696c6f7275787b7e8184878a8d909396999c9fa2a5a8abaeb1b4b7babdc0c3c6c9cccfd2d5d8",
+        short_tag: "70892e0907005f7f09d52814ecf4d28a",
+        long_tag: "95415411bf5c84db714762dbf97184390b91ae409602847334c588cfb7172edc",
+    },
+];
+
+pub const AEGIS_128X2_MACS: [Tagged; 2] = [
+    Tagged {
+        key: "030a11181f262d343b424950575e656c",
+        nonce: "010c17222d38434e59646f7a85909ba6",
+        text: "",
+        short_tag: "cada666cd25a234ea271d12b68065be2",
+        long_tag: "b76b63b9bed5acf5acb1aabbb533fdd034bbee60d0b54d7ada58bfad700acce5",
+    },
+    Tagged {
+        key: "030a11181f262d343b424950575e656c",
+        nonce: "010c17222d38434e59646f7a85909ba6",
+        text: "090c0f1215181b1e2124272a2d303336393c3f4245484b4e5154575a5d606366696c6f7275787b7e8184878a8d909396999c9fa2a5a8abaeb1b4b7babdc0c3c6c9cccfd2d5d8",
+        short_tag: "def6f02ca250c493a60846008d888feb",
+        long_tag: "92f540e6181c28717e7f6debb9cc4b630225fe7e1e2690a8c27e8d378faabbd5",
+    },
+];
+
+pub const AEGIS_128X4_MACS: [Tagged; 2] = [
+    Tagged {
+        key: "030a11181f262d343b424950575e656c",
+        nonce: "010c17222d38434e59646f7a85909ba6",
+        text: "",
+        short_tag: "6784ec6cbfdf0088da2dc7424e5c16e5",
+        long_tag: "6072d459570610ab240ab5317874464f9e6c54f722d5f9feccdada71628aa289",
+    },
+    Tagged {
+        key: "030a11181f262d343b424950575e656c",
+        nonce: "010c17222d38434e59646f7a85909ba6",
+        text: "090c0f1215181b1e2124272a2d303336393c3f4245484b4e5154575a5d606366696c6f7275787b7e8184878a8d909396999c9fa2a5a8abaeb1b4b7babdc0c3c6c9cccfd2d5d8",
+        short_tag: "93ce1fcc763a006969975d37facce28d",
+        long_tag: "16c4e6d0a8c6b62020af26e370f3935670aaa8659b0c3eb1f37f86f6ed736dd9",
+    },
+];
+
+pub const AEGIS_256_MACS: [Tagged; 2] = [
+    Tagged {
+        key: "030a11181f262d343b424950575e656c737a81888f969da4abb2b9c0c7ced5dc",
+        nonce: "010c17222d38434e59646f7a85909ba6b1bcc7d2dde8f3fe09141f2a35404b56",
+        text: "",
+        short_tag: "76759ffd6a30385d24712cfed74ffa1b",
+        long_tag: "35c6e693299573ba1833d0d4938f9d41d653c906c32169ef7f4f2a995b49137c",
+    },
+    Tagged {
+        key: "030a11181f262d343b424950575e656c737a81888f969da4abb2b9c0c7ced5dc",
+        nonce: "010c17222d38434e59646f7a85909ba6b1bcc7d2dde8f3fe09141f2a35404b56",
+        text: "090c0f1215181b1e2124272a2d303336393c3f4245484b4e5154575a5d606366696c6f7275787b7e8184878a8d909396999c9fa2a5a8abaeb1b4b7babdc0c3c6c9cccfd2d5d8",
+        short_tag: "d41da5f38c5fc0355e43ef99871c4b1c",
+        long_tag: "fb0478166efa94d839b8490421744047524c0475ac1f61fda0afdb905c3f9fe2",
+    },
+];
+
+pub const AEGIS_256X2_MACS: [Tagged; 2] = [
+    Tagged {
+        key: "030a11181f262d343b424950575e656c737a81888f969da4abb2b9c0c7ced5dc",
+        nonce: "010c17222d38434e59646f7a85909ba6b1bcc7d2dde8f3fe09141f2a35404b56",
+        text: "",
+        short_tag: "a15fa9adcc3a56d70bf18a626e6b9b08",
+        long_tag: "e6f6c299edc58cc4e3136e494385eb93f42e12589c3dccf384064c8fb389c8e7",
+    },
+    Tagged {
+        key: "030a11181f262d343b424950575e656c737a81888f969da4abb2b9c0c7ced5dc",
+        nonce: "010c17222d38434e59646f7a85909ba6b1bcc7d2dde8f3fe09141f2a35404b56",
+        text: "090c0f1215181b1e2124272a2d303336393c3f4245484b4e5154575a5d606366696c6f7275787b7e8184878a8d909396999c9fa2a5a8abaeb1b4b7babdc0c3c6c9cccfd2d5d8",
+        short_tag: "b8f30b8984eb8c6f7c51ac43411b3961",
+        long_tag: "d6dac69bcaf94697aea17f5abaf7fc5f26d4c0cec92921b0cb85005d64e54834",
+    },
+];
+
+pub const AEGIS_256X4_MACS: [Tagged; 2] = [
+    Tagged {
+        key: "030a11181f262d343b424950575e656c737a81888f969da4abb2b9c0c7ced5dc",
+        nonce: "010c17222d38434e59646f7a85909ba6b1bcc7d2dde8f3fe09141f2a35404b56",
+        text: "",
+        short_tag: "9922cb1227ecc439422ea3dd3c1873bb",
+        long_tag: "6f2854098ffc47ef39f7bcc247b1cc75e33816325553193cd7646d53429f0be5",
+    },
+    Tagged {
+        key: "030a11181f262d343b424950575e656c737a81888f969da4abb2b9c0c7ced5dc",
+        nonce: "010c17222d38434e59646f7a85909ba6b1bcc7d2dde8f3fe09141f2a35404b56",
+        text: "090c0f1215181b1e2124272a2d303336393c3f4245484b4e5154575a5d606366696c6f7275787b7e8184878a8d909396999c9fa2a5a8abaeb1b4b7babdc0c3c6c9cccfd2d5d8",
+        short_tag: "3a99162c05df3f9bf4f3339d7baaf662",
+        long_tag: "fbdb4bcd0ae4ba0a519368c9e879a1efe347f9eb3b9c4e1bf29f60e3fac51615",
+    },
+];
