@@ -9,6 +9,8 @@ mod memory;
 mod names;
 mod output;
 mod program;
+#[cfg(test)]
+mod rows;
 mod running;
 mod seed;
 mod standard;
