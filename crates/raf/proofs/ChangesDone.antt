@@ -144,7 +144,7 @@ module _ (C : Cipher) (lawful : IsLawful C) (E : List ℕ → Hashing) (laws : (
           (bounded_done C h c K done ready.alters ready.calm ready.least ready.ranged old.tree [] ready.fits old.outside new.outside refl moved hashed)
     ];
     strays = strays;
-    marked = record { sets = λ may refused began. absurd (false≢true (sym ready.answered ∙ refused)); cause = λ set. absurd (false≢true (sym unmarked ∙ set)) };
+    marked = record { sets = λ may refused began. absurd (false≢true (sym ready.answered ∙ refused)); cause = λ set. absurd (false≢true (sym unmarked ∙ set)); calmly = λ set. absurd (false≢true (sym unmarked ∙ set)) };
     stays = record {
       key = key;
       limit = limit;

@@ -332,6 +332,7 @@ module _ (C : Cipher) (lawful : IsLawful C) (E : List ℕ → Hashing) (old new 
           | inr not ↦ absurd (false≢true (sym not.0 ∙ set))
         ],
       );
+      calmly = λ set calm. absurd (false≢true (sym (changing.unbegun (only_missing kind old.outside new.outside changing.failed calm)) ∙ set));
     };
     stays = record {
       key = changing.key;

@@ -15,7 +15,8 @@ use Rattle.raf.specs.Outside.{Outside, Quiet, Caused, Moved}
 use Rattle.raf.specs.Handle.{Handle, Holds, WithTree, Grown, limit_of, outline}
 use Rattle.raf.specs.Stepped.{Stepped, Went, Cut, Failed, Bounded, may_settle, may_mark}
 use Rattle.raf.specs.Session.{Ground, AllAnswer, Course, Whole, Faulted, Ran, settled_after, IsDurable, begun}
-use Rattle.raf.specs.Ran.{ground, SoFar, Progress, Ended}
+use Rattle.raf.specs.Ran.{ground, SoFar, Progress, NumbersSoFar, Ended}
+use Rattle.raf.proofs.Numbers.{numbers_none, numbers_more, numbers_cut, numbers_whole}
 use Rattle.raf.specs.Due.{is_fault}
 use Rattle.raf.specs.declared.command.Command.{Command}
 use Rattle.raf.specs.declared.command.Command.TheVariants as command
@@ -73,6 +74,7 @@ module _ (C : Cipher) (lawful : IsLawful C) (E : List ℕ → Hashing) (old : Ha
   pub progress_none : (replies : List Reply) → replies ≡ [] → Progress C E old old [] replies
   progress_none replies none = record {
     told = λ F held grown unmarked. subst (λ (l : List Reply). SoFar C E old old F held.bytes [] l) (sym none) (so_far_none F held grown unmarked);
+    numbers = λ unmarked. subst (λ (l : List Reply). NumbersSoFar C old old [] l) (sym none) (numbers_none C old unmarked);
     quiet = λ _. quiet_same old.outside old.outside refl;
     key = refl;
     limit = refl;
@@ -92,21 +94,24 @@ module _ (C : Cipher) (lawful : IsLawful C) (E : List ℕ → Hashing) (old : Ha
   }
 
   pub ended_whole : (now : Handle) (commands done : List Command) (replies : List Reply) → done ≡ commands → Progress C E old now done replies → Ended C E old now commands replies
-  ended_whole now commands done replies all progress = subst (λ (l : List Command). Ended C E old now l replies) all (λ F held grown unmarked.
-      let s = progress.told F held grown unmarked in
-      let n : begun (ground C E old) done replies ≡ done = take_all (length replies) done (omega (arith, answers_len (ground C E old) F done replies s.played)) in
-      record {
-        run = inl (record {
-          nonces = s.nonces;
-          course = course_of now F held.bytes done replies progress.key s;
-          bytes = s.tells;
-          left = s.taken;
-          quiet = progress.quiet unmarked;
-          settled = s.settled;
-        });
-        moved = subst (λ (l : List Command). Moved old.outside now.outside (longest (limit_of old) F l) (traffic_in (limit_of old) F l) (asked_in (limit_of old) F l) (changes_in (limit_of old) F l) (calls_in (limit_of old) F l)) (sym n) s.moved;
-        strays = s.strays;
-      })
+  ended_whole now commands done replies all progress = subst (λ (l : List Command). Ended C E old now l replies) all (record {
+    told = λ F held grown unmarked.
+        let s = progress.told F held grown unmarked in
+        let n : begun (ground C E old) done replies ≡ done = take_all (length replies) done (omega (arith, answers_len (ground C E old) F done replies s.played)) in
+        record {
+          run = inl (record {
+            nonces = s.nonces;
+            course = course_of now F held.bytes done replies progress.key s;
+            bytes = s.tells;
+            left = s.taken;
+            quiet = progress.quiet unmarked;
+            settled = s.settled;
+          });
+          moved = subst (λ (l : List Command). Moved old.outside now.outside (longest (limit_of old) F l) (traffic_in (limit_of old) F l) (asked_in (limit_of old) F l) (changes_in (limit_of old) F l) (calls_in (limit_of old) F l)) (sym n) s.moved;
+          strays = s.strays;
+        };
+    numbers = λ unmarked. numbers_whole C old now done replies (progress.numbers unmarked) (progress.quiet unmarked);
+  })
 
   module _ (mid new : Handle) (done : List Command) (c : Command) (reply : Reply) (replies : List Reply) (progress : Progress C E old mid done replies) (stepped : Stepped C E mid new c reply) where
     -- what holds where nothing happened, and where the command was looked at, holds
@@ -120,6 +125,7 @@ module _ (C : Cipher) (lawful : IsLawful C) (E : List ℕ → Hashing) (old : Ha
     pub progress_more : is_fault reply ≡ false → Progress C E old new (done ++ c ∷ []) (replies ++ reply ∷ [])
     progress_more calm = record {
       told = λ F held grown unmarked. so_far_more C E old mid new c reply stepped calm progress.key progress.limit progress.setting F held.bytes done replies (progress.told F held grown unmarked);
+      numbers = λ unmarked. numbers_more C E old mid new done c reply replies (progress.numbers unmarked) progress.limit stepped calm;
       quiet = λ unmarked. quiet_then old.outside mid.outside new.outside (progress.quiet unmarked) (either (λ h k. Quiet h.outside k.outside) (quiet_same mid.outside mid.outside refl) (λ w. w.quiet calm));
       key = either (λ h k. k.key ≡ h.key) refl (λ w. w.stays.key) ∙ progress.key;
       limit = either (λ h k. limit_of k ≡ limit_of h) refl (λ w. w.stays.limit) ∙ progress.limit;
@@ -128,43 +134,46 @@ module _ (C : Cipher) (lawful : IsLawful C) (E : List ℕ → Hashing) (old : Ha
     }
 
     pub ended_cut : (commands rest : List Command) → commands ≡ done ++ c ∷ rest → is_fault reply ≡ true → Ended C E old new commands (replies ++ reply ∷ [])
-    ended_cut commands rest split fault = λ F held grown unmarked.
-        let s = progress.told F held grown unmarked in
-        let L = limit_of old in
-        let F' = file_after (limit_of old) F done in
-        let went = stepped.went s.unmarked in
-        let failed = went.failed fault in
-        let cut = went.cut F' s.holds fault in
-        let bytes : s.holds.bytes ≡ traced (limit_of old) C old.key F done s.nonces held.bytes = same_bytes s.holds.bytes _ (sym s.holds.tells ∙ s.tells) in
-        record {
-          run = inr (record {
-            done = done;
-            command = c;
-            rest = rest;
-            split = split;
-            answered = replies;
-            kind = failed.kind;
-            last = ap (λ (r : Reply). replies ++ r ∷ []) failed.is;
-            nonces = s.nonces;
-            course = course_of mid F held.bytes done replies progress.key s;
-            cause = caused_later failed.kind old.outside mid.outside new.outside (progress.quiet unmarked) failed.cause;
-            due = subst (λ (o : Option ℕ). Faultable o failed.kind F' c) progress.limit (failed.may F' (inl s.holds));
-            middle = mid.outside.left;
-            short = λ is exact. subst (λ (o : Option ℕ). IsShort mid.outside.left (asked_by o F' c)) progress.limit (failed.short F' (inl s.holds) is (progress.exact ∙ exact));
-            taken = s.taken;
-            left = subst (λ (o : Option ℕ). TakesAtMost mid.outside.left (asked_by o F' c) new.outside.left) progress.limit cut.left;
-            bytes = cut.bytes;
-            tells = cut.tells;
-            settled = λ was quiet. λ x d bytes_are durable_is.
-                s.settled was x d (s.holds.tells ∙ ap (λ (l : List ℕ). Some l) (sym (cut.spares.untouched (no_change F' c quiet))) ∙ sym cut.tells ∙ bytes_are) (sym (went.stays.durable quiet) ∙ durable_is);
-            spares = subst (λ (l : List ℕ). Spares F' c l cut.bytes) bytes cut.spares;
-          });
-          moved =
-              let len : length replies ≡ length done = answers_len (ground C E old) F done replies s.played in
-              let n : length (done ++ c ∷ []) ≡ length (replies ++ reply ∷ []) = omega (arith, length-append done (c ∷ []), length-append replies (reply ∷ []), len) in
-              let begun_is : done ++ c ∷ [] ≡ take (length (replies ++ reply ∷ [])) commands =
-              sym (take_at (done ++ c ∷ []) rest (length (replies ++ reply ∷ [])) n) ∙ ap (λ (l : List Command). take (length (replies ++ reply ∷ [])) l) (append_assoc done (c ∷ []) rest ∙ sym split) in
-              subst (λ (l : List Command). Moved old.outside new.outside (longest (limit_of old) F l) (traffic_in (limit_of old) F l) (asked_in (limit_of old) F l) (changes_in (limit_of old) F l) (calls_in (limit_of old) F l)) begun_is
-              (moved_on (limit_of old) F done c old.outside mid.outside new.outside s.moved (subst (λ (o : Option ℕ). Bounded o mid.outside new.outside F' c) progress.limit (went.bounded F' (inl s.holds))));
-          strays = went.strays F' s.holds ∙ s.strays;
-        }
+    ended_cut commands rest split fault = record {
+      told = λ F held grown unmarked.
+          let s = progress.told F held grown unmarked in
+          let L = limit_of old in
+          let F' = file_after (limit_of old) F done in
+          let went = stepped.went s.unmarked in
+          let failed = went.failed fault in
+          let cut = went.cut F' s.holds fault in
+          let bytes : s.holds.bytes ≡ traced (limit_of old) C old.key F done s.nonces held.bytes = same_bytes s.holds.bytes _ (sym s.holds.tells ∙ s.tells) in
+          record {
+            run = inr (record {
+              done = done;
+              command = c;
+              rest = rest;
+              split = split;
+              answered = replies;
+              kind = failed.kind;
+              last = ap (λ (r : Reply). replies ++ r ∷ []) failed.is;
+              nonces = s.nonces;
+              course = course_of mid F held.bytes done replies progress.key s;
+              cause = caused_later failed.kind old.outside mid.outside new.outside (progress.quiet unmarked) failed.cause;
+              due = subst (λ (o : Option ℕ). Faultable o failed.kind F' c) progress.limit (failed.may F' (inl s.holds));
+              middle = mid.outside.left;
+              short = λ is exact. subst (λ (o : Option ℕ). IsShort mid.outside.left (asked_by o F' c)) progress.limit (failed.short F' (inl s.holds) is (progress.exact ∙ exact));
+              taken = s.taken;
+              left = subst (λ (o : Option ℕ). TakesAtMost mid.outside.left (asked_by o F' c) new.outside.left) progress.limit cut.left;
+              bytes = cut.bytes;
+              tells = cut.tells;
+              settled = λ was quiet. λ x d bytes_are durable_is.
+                  s.settled was x d (s.holds.tells ∙ ap (λ (l : List ℕ). Some l) (sym (cut.spares.untouched (no_change F' c quiet))) ∙ sym cut.tells ∙ bytes_are) (sym (went.stays.durable quiet) ∙ durable_is);
+              spares = subst (λ (l : List ℕ). Spares F' c l cut.bytes) bytes cut.spares;
+            });
+            moved =
+                let len : length replies ≡ length done = answers_len (ground C E old) F done replies s.played in
+                let n : length (done ++ c ∷ []) ≡ length (replies ++ reply ∷ []) = omega (arith, length-append done (c ∷ []), length-append replies (reply ∷ []), len) in
+                let begun_is : done ++ c ∷ [] ≡ take (length (replies ++ reply ∷ [])) commands =
+                sym (take_at (done ++ c ∷ []) rest (length (replies ++ reply ∷ [])) n) ∙ ap (λ (l : List Command). take (length (replies ++ reply ∷ [])) l) (append_assoc done (c ∷ []) rest ∙ sym split) in
+                subst (λ (l : List Command). Moved old.outside new.outside (longest (limit_of old) F l) (traffic_in (limit_of old) F l) (asked_in (limit_of old) F l) (changes_in (limit_of old) F l) (calls_in (limit_of old) F l)) begun_is
+                (moved_on (limit_of old) F done c old.outside mid.outside new.outside s.moved (subst (λ (o : Option ℕ). Bounded o mid.outside new.outside F' c) progress.limit (went.bounded F' (inl s.holds))));
+            strays = went.strays F' s.holds ∙ s.strays;
+          };
+      numbers = λ unmarked. numbers_cut C E old mid new done c reply replies (progress.numbers unmarked) progress.limit stepped commands rest split fault (progress.quiet unmarked);
+    }

@@ -13,12 +13,13 @@ use Rattle.raf.specs.Outside.{Outside, Kept, Quiet, Moved}
 use Rattle.raf.specs.Opening.{LaidOut, WhyNotLaidOut, WhyNoTree, WhyNotRead, WhyNotOpened, NumbersRefuse, RefusalFault, Room, Looked, Within, NotOpened, TreeMade, opening_traffic}
 use Rattle.std.specs.Option.{option_map}
 use Rattle.raf_tree.specs.Kept.{Kept as Tree}
-use Rattle.raf.proofs.Moves.{moved_less}
+use Rattle.raf.proofs.Moves.{moved_less, moved_later}
 
 -- no more was asked than the header
 pub looked_bare : (old new : Outside) (most : Option ℕ) → Kept old new → Moved old new 96 96 0 0 0 → ((b : List ℕ) → old.bytes ≡ Some b → Within old new (length b)) → Looked old new most
 looked_bare old new most kept moved within = record {
   kept = kept;
+  later = moved_later old new _ _ _ _ _ moved;
   moved = λ b tells. let w = within b tells in record {
     exact = moved.exact;
     setting = moved.setting;

@@ -55,7 +55,7 @@ module _ (C : Cipher) (E : List ℕ → Hashing) (old : Handle) (c : Command) (r
     shaped = λ _. shaped_by (limit_of old) (outline C old.header) reply c kind (inr (subst (λ (d : Due × File). Answers (HasForm c) d.0 reply) (sym (due [])) refl));
     bounded = λ F measures. moved_any old.outside old.outside _ _ _ _ _ (moved_same old.outside old.outside refl);
     strays = λ F held. refl;
-    marked = record { sets = λ may refused began. absurd (elim began [ inl more ↦ omega (arith, more) | inr more ↦ omega (arith, more) ]); cause = λ set. absurd (false≢true (sym unmarked ∙ set)) };
+    marked = record { sets = λ may refused began. absurd (elim began [ inl more ↦ omega (arith, more) | inr more ↦ omega (arith, more) ]); cause = λ set. absurd (false≢true (sym unmarked ∙ set)); calmly = λ set. absurd (false≢true (sym unmarked ∙ set)) };
     stays = record {
       key = refl;
       limit = refl;

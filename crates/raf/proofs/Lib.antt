@@ -18,6 +18,7 @@ pub mod Decided
 pub mod Progress
 pub mod Sizes
 pub mod Opened
+pub mod Numbers
 pub mod Ends
 pub mod NotOpened
 pub mod Spans
@@ -60,3 +61,4 @@ pub mod Spared
 pub mod Finished
 pub mod Committed
 pub mod Changed
+pub mod Sessions

@@ -161,3 +161,44 @@ moved_counted a b end traffic asked changes calls m = record {
   calls_most = omega (arith, m.calls_later);
   strays_later = m.strays_later;
 }
+
+-- whatever was asked of storage and hasher, nothing else was
+pub moved_later : (a b : Outside) (end traffic asked changes calls : ℕ) → Moved a b end traffic asked changes calls → Moved a b b.reach b.traffic asked changes b.calls
+moved_later a b end traffic asked changes calls m = record {
+  exact = m.exact;
+  setting = m.setting;
+  io_later = m.io_later;
+  rng_later = m.rng_later;
+  hash_later = m.hash_later;
+  reach_later = m.reach_later;
+  reach_most = omega arith;
+  traffic_later = m.traffic_later;
+  traffic_most = omega arith;
+  asked_later = m.asked_later;
+  asked_most = m.asked_most;
+  changes_later = m.changes_later;
+  changes_most = m.changes_most;
+  calls_later = m.calls_later;
+  calls_most = omega arith;
+  strays_later = m.strays_later;
+}
+
+pub moved_all : (a b : Outside) (end traffic asked changes calls : ℕ) → Moved a b end traffic asked changes calls → Moved a b b.reach b.traffic b.asked b.changes b.calls
+moved_all a b end traffic asked changes calls m = record {
+  exact = m.exact;
+  setting = m.setting;
+  io_later = m.io_later;
+  rng_later = m.rng_later;
+  hash_later = m.hash_later;
+  reach_later = m.reach_later;
+  reach_most = omega arith;
+  traffic_later = m.traffic_later;
+  traffic_most = omega arith;
+  asked_later = m.asked_later;
+  asked_most = omega arith;
+  changes_later = m.changes_later;
+  changes_most = omega arith;
+  calls_later = m.calls_later;
+  calls_most = omega arith;
+  strays_later = m.strays_later;
+}

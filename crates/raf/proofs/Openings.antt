@@ -23,7 +23,7 @@ use Rattle.raf.specs.Read.{chunks_of}
 use Rattle.raf.specs.Session.{present}
 use Rattle.raf.specs.Growing.{Grew, Ungrown}
 use Rattle.raf.specs.Opening.{LaidOut, WhyNotRead, WhyNotOpened, NumbersRefuse, RefusalFault, Room, Looked, Within, OpenedBare, Opened, NotOpened, TreeMade, opening_traffic, opening_calls}
-use Rattle.raf.proofs.Moves.{moved_less, moved_then, quiet_then, kept_then, caused_later}
+use Rattle.raf.proofs.Moves.{moved_less, moved_then, moved_later, quiet_then, kept_then, caused_later}
 use Rattle.raf.proofs.Headed.{looked_bare}
 use Rattle.raf.proofs.Chunks.{get_chunk}
 use Rattle.raf.proofs.Needed.{one_missing}
@@ -86,6 +86,7 @@ module _ (C : Cipher) (lawful : IsLawful C) (E : List ℕ → Hashing) (key : Li
     unmarked = refl;
     limit = bare.made.limit;
     room = bare.made.room;
+    fits = bare.fits;
     quiet = bare.quiet;
     looked = looked_bare old mid most bare.kept bare.moved bare.within;
     holds = λ b tells. (file_of C key h b, opens_of C lawful key b h (bare.is_file b tells), held mid tree b tells bare.kept.bytes, λ x t set is. absurd (no_tree tree t none is));
@@ -99,6 +100,7 @@ module _ (C : Cipher) (lawful : IsLawful C) (E : List ℕ → Hashing) (key : Li
     looked : (result : Result (Unit {0}) Error) → Grew C E K h mid new tree tree' begun result → Looked old new most
     looked result grew = record {
       kept = kept_then old mid new bare.kept grew.kept;
+      later = moved_later old new _ _ _ _ _ (moved_then old mid new _ _ _ _ _ _ _ _ _ _ bare.moved grew.moved);
       moved = λ b tells.
           let len : length b ≡ layout_len (shape_of C h) h.file_size = (bare.is_file b tells).length_fits in
           let traffic : opening_traffic most (length b) ≡ length b = ap (λ (o : Option ℕ). opening_traffic o (length b)) most_is.2 in
@@ -129,6 +131,7 @@ module _ (C : Cipher) (lawful : IsLawful C) (E : List ℕ → Hashing) (key : Li
       unmarked = refl;
       limit = shapes_limit tree tree' grew.shapes ∙ bare.made.limit;
       room = bare.made.room;
+      fits = bare.fits;
       quiet = quiet_then old mid new bare.quiet grew.quiet;
       looked = looked (Ok tt) grew;
       holds = λ b tells. (

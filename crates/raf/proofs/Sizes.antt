@@ -9,8 +9,8 @@ use Rattle.raf.specs.Due.{Due, Answers}
 use Rattle.raf.specs.Due.Due.{Exactly}
 use Rattle.raf.specs.Apply.{apply}
 use Rattle.raf.specs.Meaning.{Authentic}
-use Rattle.raf.specs.Handle.{Handle, Holds, OfTree, KeptAnswer, limit_of}
-use Rattle.raf.specs.Stepped.{Stepped}
+use Rattle.raf.specs.Handle.{Handle, Holds, OfTree, KeptAnswer, limit_of, outline}
+use Rattle.raf.specs.Stepped.{Stepped, Shaped, HasForm}
 use Rattle.raf.specs.declared.command.Command.TheVariants.{Size, Rebuild, Sync}
 use Rattle.raf.specs.declared.command.Reply.TheVariants as reply
 use Rattle.raf_io.specs.declared.errors.ErrorKind.TheVariants.{AuthenticationFailed, MerkleNotEnabled}
@@ -42,3 +42,7 @@ stepped_size C E h = record {
 
     no_sync : Size ≡ Sync → ⊥
     no_sync is = cc
+
+-- its reply is the size, whatever the storage tells
+pub stepped_shape : (C : Cipher) (E : List ℕ → Hashing) (h : Handle) → Shaped (limit_of h) (outline C h.header) Size (reply.Size h.header.file_size)
+stepped_shape C E h = inr (subst (λ (p : Due × File). Answers (HasForm Size) p.0 (reply.Size h.header.file_size)) (sym (apply_size (limit_of h) (outline C h.header))) refl)

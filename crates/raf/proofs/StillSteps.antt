@@ -145,7 +145,7 @@ module _ (C : Cipher) (E : List ℕ → Hashing) (old new : Handle) (c : Command
     shaped = shaped;
     bounded = bounded;
     strays = strays;
-    marked = record { sets = λ may refused began. absurd (elim began [ inl more ↦ omega (arith, more, changes) | inr more ↦ omega (arith, more, calls (inl may)) ]); cause = λ set. absurd (false≢true (sym unmarked ∙ set)) };
+    marked = record { sets = λ may refused began. absurd (elim began [ inl more ↦ omega (arith, more, changes) | inr more ↦ omega (arith, more, calls (inl may)) ]); cause = λ set. absurd (false≢true (sym unmarked ∙ set)); calmly = λ set. absurd (false≢true (sym unmarked ∙ set)) };
     stays = record {
       key = key;
       limit = ap (option_map (λ (t : Tree). t.max_chunks)) tree;

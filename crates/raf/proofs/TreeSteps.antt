@@ -159,8 +159,8 @@ module _ (C : Cipher) (E : List ℕ → Hashing) (key : List ℕ) (h : Header) (
     first_some j (suc n) k le lt all bad = elim (cases_lt j k) [
       | inl more ↦ inl (all j (omega arith) more, first_some (j + 1) n k (omega (arith, more)) (omega (arith, lt)) (λ i least most. all i (omega (arith, least)) most) bad)
       | inr same ↦
-        let e : k ≡ j = omega (arith, le, same) in
-        inr (subst (λ (i : ℕ). Matches (E x) t i (chunk_at C K h b i) → ⊥) e bad, ap (λ (i : ℕ). Some i) e)
+          let e : k ≡ j = omega (arith, le, same) in
+          inr (subst (λ (i : ℕ). Matches (E x) t i (chunk_at C K h b i) → ⊥) e bad, ap (λ (i : ℕ). Some i) e)
     ]
 
   module _ (K : List ℕ) (derived : K ≡ C.chunk_key key h.id) (b : Outside) where
@@ -184,8 +184,15 @@ module _ (C : Cipher) (E : List ℕ → Hashing) (key : List ℕ) (h : Header) (
     pub went_found : (found : Option ℕ) → Verifies C E K h t a b (Ok found) → Went C E (at a) (at b) command.Verify (reply.Verified found)
     went_found found v =
         went_still C E (at a) (at b) command.Verify (reply.Verified found) refl refl refl refl refl v.kept.bytes v.kept.left
-        (λ F held calm. (merkle_due F command.Verify (reply.Verified found) verify (found, refl, subst (λ (F : File). FirstBad (E x) t 0 F.chunks found) (sym held.file)
-        (subst (λ (k : List ℕ). FirstBad (E x) t 0 (chunks_of C k h held.bytes) found) derived (bad found v held.bytes held.tells))), tt))
+        (λ F held calm. (
+          merkle_due F command.Verify (reply.Verified found) verify (
+            found,
+            refl,
+            subst (λ (F : File). FirstBad (E x) t 0 F.chunks found) (sym held.file)
+                (subst (λ (k : List ℕ). FirstBad (E x) t 0 (chunks_of C k h held.bytes) found) derived (bad found v held.bytes held.tells)),
+          ),
+          tt,
+        ))
         (λ fault. absurd (false≢true fault))
         (λ _. v.quiet)
         (λ _. inr (subst (λ (p : Due × File). Answers (HasForm command.Verify) p.0 (reply.Verified found)) (sym (apply_some t.max_chunks (outline C h) command.Verify verify)) (found, refl)))
@@ -272,8 +279,11 @@ module _ (C : Cipher) (E : List ℕ → Hashing) (key : List ℕ) (h : Header) (
       pub went_committed : (out : List ℕ) → Quiet a b → out ≡ (E x).commitment (kept t (tree_height t) 0) h.id h.file_size → Went C E (at a) (at b) command.Commitment (reply.Commitment out)
       went_committed out quiet is =
           went_still C E (at a) (at b) command.Commitment (reply.Commitment out) refl refl refl refl refl kept_b.bytes kept_b.left
-          (λ F held calm. (merkle_due F command.Commitment (reply.Commitment out) commitment
-          (subst (λ (F : File). reply.Commitment out ≡ reply.Commitment ((E x).commitment (kept t (tree_height t) 0) F.id F.size)) (sym held.file) (ap (λ (l : List ℕ). reply.Commitment l) is)), tt))
+          (λ F held calm. (
+            merkle_due F command.Commitment (reply.Commitment out) commitment
+                (subst (λ (F : File). reply.Commitment out ≡ reply.Commitment ((E x).commitment (kept t (tree_height t) 0) F.id F.size)) (sym held.file) (ap (λ (l : List ℕ). reply.Commitment l) is)),
+            tt,
+          ))
           (λ fault. absurd (false≢true fault))
           (λ _. quiet)
           (λ _. inr (subst (λ (p : Due × File). Answers (HasForm command.Commitment) p.0 (reply.Commitment out)) (sym (apply_some t.max_chunks (outline C h) command.Commitment commitment)) (out, refl)))
@@ -346,10 +356,13 @@ module _ (C : Cipher) (E : List ℕ → Hashing) (key : List ℕ) (h : Header) (
           authentic = tt;
           grown = λ was. subst (λ (G : File). WithTree E now (Grown G)) (sym (still_there F)) (with_it F held c was);
           unmarked = (due F held c).1;
-          still = λ refused. (b_changes, elim (stopped refused) [
-            | inl set ↦ absurd (not_broken broken set.0 (due F held c).1)
-            | inr not ↦ not.1
-          ]);
+          still = λ refused. (
+            b_changes,
+            elim (stopped refused) [
+              | inl set ↦ absurd (not_broken broken set.0 (due F held c).1)
+              | inr not ↦ not.1
+            ],
+          );
         };
         cut = λ F held fault. record {
           left = ([], omega arith, subst (λ (o : Option (List ℕ)). Takes a.left [] o) (sym kept_b.left) (takes_none a.left));
@@ -368,6 +381,10 @@ module _ (C : Cipher) (E : List ℕ → Hashing) (key : List ℕ) (h : Header) (
             | inr not ↦ absurd (elim began [ inl more ↦ omega (arith, more, b_changes) | inr more ↦ omega (arith, more, not.1) ])
           ];
           cause = λ set. (refl, refused_of set, inr (rose_of set));
+          calmly = λ set c. elim (calm c).1 [
+            | inl finished ↦ absurd (not_broken broken set (done (ap refuses finished)))
+            | inr auth ↦ (refl, auth)
+          ];
         };
         stays = record {
           key = refl;
@@ -375,10 +392,13 @@ module _ (C : Cipher) (E : List ℕ → Hashing) (key : List ℕ) (h : Header) (
           header = same_header (refuses answer);
           bytes = λ why. elim why [
             | inl still ↦ absurd (false≢true (sym still))
-            | inr both ↦ (kept_b.bytes, elim (stopped both.0) [
-              | inl set ↦ absurd (not_broken broken set.0 both.1)
-              | inr not ↦ ap (λ (t : Tree). Some t) not.2
-            ])
+            | inr both ↦ (
+              kept_b.bytes,
+              elim (stopped both.0) [
+                | inl set ↦ absurd (not_broken broken set.0 both.1)
+                | inr not ↦ ap (λ (t : Tree). Some t) not.2
+              ],
+            )
           ];
           durable = λ _. kept_b.durable;
           synced = λ sync. absurd (no_sync command.Rebuild rebuild sync);
@@ -406,14 +426,14 @@ module _ (C : Cipher) (E : List ℕ → Hashing) (key : List ℕ) (h : Header) (
           with_it F held c was s v is kept_is = elim (calm c).1 [
             | inl finished ↦ at_setting s v is kept_is (grown F held finished)
             | inr auth ↦
-              elim (stopped (refused_auth auth)) [
-              | inl set ↦ absurd (not_broken broken set.0 (due F held c).1)
-              | inr not ↦
-                elim was [
-                | inl before ↦ before s v (sym moved.setting ∙ is) (ap (λ (t : Tree). Some t) (sym not.2) ∙ kept_is)
-                | inr both ↦ absurd (other (sym auth ∙ both.1))
+                elim (stopped (refused_auth auth)) [
+                  | inl set ↦ absurd (not_broken broken set.0 (due F held c).1)
+                  | inr not ↦
+                      elim was [
+                        | inl before ↦ before s v (sym moved.setting ∙ is) (ap (λ (t : Tree). Some t) (sym not.2) ∙ kept_is)
+                        | inr both ↦ absurd (other (sym auth ∙ both.1))
+                      ]
                 ]
-              ]
           ]
             where
               other : reply.Refused AuthenticationFailed ≡ reply.Done → ⊥

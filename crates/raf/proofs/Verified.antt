@@ -97,8 +97,8 @@ module _ (C : Cipher) (K : List ℕ) (h : Header) where
         same = λ b tells x set i lt. elim (cases_lt i index) [
           | inl below ↦ so_far.same b tells x set i below
           | inr above ↦
-            let e : index ≡ i = omega (arith, lt, above) in
-            subst (λ (i : ℕ). Matches (E x) t i (chunk_at C K h b i)) e ((c.same b (so_far.kept.bytes ∙ tells) x (so_far.moved.setting ∙ set)).0 is)
+              let e : index ≡ i = omega (arith, lt, above) in
+              subst (λ (i : ℕ). Matches (E x) t i (chunk_at C K h b i)) e ((c.same b (so_far.kept.bytes ∙ tells) x (so_far.moved.setting ∙ set)).0 is)
         ];
         quiet = quiet_then a p q so_far.quiet c.quiet;
         kept = kept_then a p q so_far.kept c.kept;
@@ -192,8 +192,8 @@ module _ (C : Cipher) (K : List ℕ) (h : Header) where
         there = λ b tells i lt. elim (cases_lt i index) [
           | inl below ↦ so_far.there b tells i below
           | inr above ↦
-            let e : index ≡ i = omega (arith, lt, above) in
-            subst (λ (i : ℕ). (m : List ℕ) × (chunk_at C K h b i ≡ Some m)) e (opened b (so_far.kept.bytes ∙ tells))
+              let e : index ≡ i = omega (arith, lt, above) in
+              subst (λ (i : ℕ). (m : List ℕ) × (chunk_at C K h b i ≡ Some m)) e (opened b (so_far.kept.bytes ∙ tells))
         ];
         quiet = quiet_then a p q so_far.quiet quiet;
         kept = kept_then a p q so_far.kept kept_q;

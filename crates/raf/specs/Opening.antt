@@ -1,5 +1,5 @@
 -- How a file is opened and made, and why not (this project's own).
-use Rattle.std.specs.Prelude.{◌≡◌, ◌≢◌, ℕ, ◌+◌, ◌*◌, ◌<◌, ◌≤◌, min, Bool, true, false, List, [], length, max, Option, Some, None, Result, IfOk, IfErr, OnOk, ⊤, ◌⊎◌, is_some}
+use Rattle.std.specs.Prelude.{◌≡◌, ◌≢◌, ℕ, ◌+◌, ◌*◌, ◌^◌, ◌<◌, ◌≤◌, min, Bool, true, false, List, [], length, max, Option, Some, None, Result, IfOk, IfErr, OnOk, ⊤, ◌⊎◌, is_some}
 use Rattle.raf_tree.specs.Hashing.{Hashing}
 use Rattle.raf_tree.specs.Tree.{height}
 use Rattle.raf_tree.specs.Made.{CanBeMade, RefusesTree}
@@ -122,6 +122,7 @@ opening_calls (Some most) count = 2 * count + 2 * height most + 1
 -- what an opening leaves, whether or not it was refused: all bytes; and the most that it asks
 pub record Looked (old new : Outside) (most : Option ℕ) : Type 0 where
   pub kept : Kept old new
+  pub later : Moved old new new.reach new.traffic 0 0 new.calls
   pub moved : (b : List ℕ) → old.bytes ≡ Some b → Moved old new (length b) (opening_traffic most (length b)) 0 0 new.calls
   pub calls : (b : List ℕ) (h : Header) → old.bytes ≡ Some b → Says b h → new.calls ≤ old.calls + opening_calls most (chunk_count h.chunk_size h.file_size)
   pub unhashed : (b : List ℕ) → old.bytes ≡ Some b → ((h : Header) → Says b h → ⊥) → new.calls ≡ old.calls
@@ -153,6 +154,7 @@ pub record OpenedBare (C : Cipher) (E : List ℕ → Hashing) (key : List ℕ) (
   pub key_is : now.key ≡ key
   pub unmarked : now.broken ≡ false
   pub made : TreeMade E old.setting most (chunk_count now.header.chunk_size now.header.file_size) now.tree
+  pub fits : layout_len (shape_of C now.header) now.header.file_size < 2 ^ 64
   pub is_file : (b : List ℕ) → old.bytes ≡ Some b → IsFile C key b now.header
   pub quiet : Quiet old now.outside
   pub kept : Kept old now.outside
@@ -166,6 +168,7 @@ pub record Opened (C : Cipher) (E : List ℕ → Hashing) (key : List ℕ) (most
   pub unmarked : now.broken ≡ false
   pub limit : limit_of now ≡ most
   pub room : Room E old.setting most (chunk_count now.header.chunk_size now.header.file_size)
+  pub fits : layout_len (shape_of C now.header) now.header.file_size < 2 ^ 64
   pub quiet : Quiet old now.outside
   pub looked : Looked old now.outside most
   pub holds : (b : List ℕ) → old.bytes ≡ Some b → (F : File) × Opens C key b F × Holds C now F × WithTree E now (Grown F)

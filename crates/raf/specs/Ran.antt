@@ -1,5 +1,5 @@
 -- Commands on an open file, one after the other: what the code of a session hands on (this project's own).
-use Rattle.std.specs.Prelude.{◌≡◌, ℕ, true, false, List, length, Option, Some, Result, IfOk, IfErr}
+use Rattle.std.specs.Prelude.{◌≡◌, ℕ, ◌+◌, ◌≤◌, ◌⊎◌, ◌||◌, Bool, true, false, List, [], ◌∷◌, length, Option, Some, Result, IfOk, IfErr}
 use Rattle.raf_io.specs.Source.{Takes}
 use Rattle.raf_tree.specs.Hashing.{Hashing}
 use Rattle.raf_format.specs.Cipher.{Cipher}
@@ -7,8 +7,8 @@ use Rattle.raf_format.specs.File.{File}
 use Rattle.raf.specs.Apply.{file_after, longest}
 use Rattle.raf.specs.Image.{traced, asked_in, changes_in, traffic_in, calls_in}
 use Rattle.raf.specs.Outside.{Outside, Quiet, Moved}
-use Rattle.raf.specs.Handle.{Handle, Holds, WithTree, Grown, limit_of}
-use Rattle.raf.specs.Session.{Ground, AllAnswer, AllAuthentic, settled_after, IsDurable, Ran}
+use Rattle.raf.specs.Handle.{Handle, Holds, WithTree, Grown, limit_of, outline}
+use Rattle.raf.specs.Session.{Ground, AllAnswer, AllAuthentic, settled_after, IsDurable, Ran, AllShaped, CutShort, numbers_in, asked_along, stops}
 use Rattle.raf.specs.declared.command.Command.{Command}
 use Rattle.raf.specs.declared.command.Reply.{Reply}
 use Rattle.raf_io.specs.Kinds.{kind_of}
@@ -18,6 +18,11 @@ use Rattle.raf_io.specs.declared.errors.ErrorKind.TheVariants.{OutOfMemory}
 -- what a session on this handle stands on
 abbrev pub ground : Cipher → (List ℕ → Hashing) → Handle → Ground
 ground C E h = record { cipher = C; answers = E; setting = h.outside.setting; limit = limit_of h; key = h.key }
+
+-- a rebuild that a missing chunk stopped is among commands and their replies, or came before
+abbrev pub stopped_by : Bool → List Command → List Reply → Bool
+stopped_by stopped (c ∷ commands) (r ∷ replies) = stopped_by (stopped || stops c r) commands replies
+stopped_by stopped _ _ = stopped
 
 -- commands without a fault so far, over a storage that tells
 pub record SoFar (C : Cipher) (E : List ℕ → Hashing) (old now : Handle) (F : File) (b : List ℕ) (commands : List Command) (replies : List Reply) : Type 0 where
@@ -35,19 +40,35 @@ pub record SoFar (C : Cipher) (E : List ℕ → Hashing) (old now : Handle) (F :
   pub unmarked : now.broken ≡ false
   pub settled : settled_after false commands ≡ true → IsDurable now.outside
 
--- the same over any storage
+-- the same by numbers, over any storage
+pub record NumbersSoFar (C : Cipher) (old now : Handle) (commands : List Command) (replies : List Reply) : Type 0 where
+  pub shaped : AllShaped (limit_of old) (outline C old.header) false commands replies
+  pub outline_is : outline C now.header ≡ numbers_in (limit_of old) (outline C old.header) commands replies
+  pub stopped : now.broken ≡ true → stopped_by false commands replies ≡ true
+  pub later : Moved old.outside now.outside now.outside.reach now.outside.traffic now.outside.asked now.outside.changes now.outside.calls
+  pub asked : now.outside.asked ≤ old.outside.asked + asked_along (limit_of old) (outline C old.header) commands replies
+
+-- both
 pub record Progress (C : Cipher) (E : List ℕ → Hashing) (old now : Handle) (commands : List Command) (replies : List Reply) : Type 0 where
   pub told : (F : File) (held : Holds C old F) → WithTree E old (Grown F) → old.broken ≡ false → SoFar C E old now F held.bytes commands replies
+  pub numbers : old.broken ≡ false → NumbersSoFar C old now commands replies
   pub quiet : old.broken ≡ false → Quiet old.outside now.outside
   pub key : now.key ≡ old.key
   pub limit : limit_of now ≡ limit_of old
   pub exact : now.outside.exact ≡ old.outside.exact
   pub setting : now.outside.setting ≡ old.outside.setting
 
+-- by numbers, commands that are done, up to the first fault
+pub record EndedByNumbers (C : Cipher) (old new : Handle) (commands : List Command) (replies : List Reply) : Type 0 where
+  pub run : (AllShaped (limit_of old) (outline C old.header) false commands replies × Quiet old.outside new.outside)
+      ⊎ CutShort (limit_of old) (outline C old.header) commands old.outside new.outside replies
+  pub later : Moved old.outside new.outside new.outside.reach new.outside.traffic new.outside.asked new.outside.changes new.outside.calls
+  pub asked : new.outside.asked ≤ old.outside.asked + asked_along (limit_of old) (outline C old.header) commands replies
+
 -- commands that are done, up to the first fault
-abbrev pub Ended : Cipher → (List ℕ → Hashing) → Handle → Handle → List Command → List Reply → Type 0
-Ended C E old new commands replies =
-    (F : File) (held : Holds C old F) → WithTree E old (Grown F) → old.broken ≡ false → Ran (ground C E old) F held.bytes commands old.outside new.outside replies
+pub record Ended (C : Cipher) (E : List ℕ → Hashing) (old new : Handle) (commands : List Command) (replies : List Reply) : Type 0 where
+  pub told : (F : File) (held : Holds C old F) → WithTree E old (Grown F) → old.broken ≡ false → Ran (ground C E old) F held.bytes commands old.outside new.outside replies
+  pub numbers : old.broken ≡ false → EndedByNumbers C old new commands replies
 
 -- how a session ended
 pub record End : Type 0 where

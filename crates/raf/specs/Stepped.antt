@@ -123,10 +123,11 @@ Shaped limit F c reply =
     ((reply ≡ Refused AuthenticationFailed) × (fits limit F c ≡ true) × Needs F c) ⊎ Answers (HasForm c) (apply limit F c).0 reply
 
 -- the kept mark, where it wasn't set: a change or a rebuild that is refused sets it where storage or tree was written to, and nothing
--- else does
+-- else does. Without a fault only a rebuild of a chunk that didn't open any more sets it
 pub record Marked (old new : Handle) (c : Command) (reply : Reply) : Type 0 where
   pub sets : may_mark c ≡ true → refuses reply ≡ true → Began old.outside new.outside → new.broken ≡ true
   pub cause : new.broken ≡ true → (may_mark c ≡ true) × (refuses reply ≡ true) × MayHaveBegun old.outside new.outside
+  pub calmly : new.broken ≡ true → is_fault reply ≡ false → (c ≡ command.Rebuild) × (reply ≡ Refused AuthenticationFailed)
 
 -- what stays: the key, the header but for the size, which a change without a refusal alone sets; the limit; the storage's bytes and the
 -- tree where the command is refused and sets no mark; and what is durable

@@ -19,9 +19,9 @@ mod planning;
 mod preparing;
 mod reading;
 mod serving;
-mod verifying;
 mod staging;
 mod storing;
+mod verifying;
 
 pub use builder::{OpenError, RafBuilder};
 pub use command::{Command, Replies, Reply};

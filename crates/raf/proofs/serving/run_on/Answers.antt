@@ -1,5 +1,5 @@
 use Rattle.std.proofs.Common.{◌≡◌, List, sym, ◌∙◌, ap, subst}
-use Rattle.std.specs.Result.{IfOk}
+use Rattle.std.specs.Result.{IsOkAnd}
 use Rattle.raf_format.specs.Cipher.{cipher_of}
 use Rattle.raf.specs.Outside.{Outside}
 use Rattle.raf.specs.Handle.{Handle}
@@ -11,5 +11,5 @@ pub returns : goal.returns
 returns g c =
     let C = cipher_of g.A.Algorithm.variant in
     let E = g.H.MerkleHasher.hashing in
-    subst (λ (e : End). IfOk e.outcome (λ answers. (now : Handle) × Ended C E c.args.file now c.args.commands.now answers × (e.outside ≡ now.outside))) (sym c.of.ensures)
+    subst (λ (e : End). IsOkAnd e.outcome (λ answers. (now : Handle) × Ended C E c.args.file now c.args.commands.now answers × (e.outside ≡ now.outside))) (sym c.of.ensures)
     (c.answer_all-replies.new.file, subst (λ (l : List Reply). Ended C E c.args.file c.answer_all-replies.new.file c.args.commands.now l) (sym c.from_vec.ensures) c.answer_all-replies.ensures, c.close.ensures)
