@@ -280,7 +280,7 @@ spelled_read text s h =
     let l4 = tree_is_line h.tree_line s.max_chunks h.tree in
     let l5 = start_is_line h.start_line s.start h.start in
     let all : AreAllLines (h.algorithm_line ∷ h.key_line ∷ h.randomness_line ∷ h.tree_line ∷ h.start_line ∷ h.command_lines)
-        = (l1.0, l1.1, (l2.0, l2.1, (l3.0, l3.1, (l4.0, l4.1, (l5.0, l5.1, commands_are_lines h.command_lines s.commands h.commands))))) in
+    = (l1.0, l1.1, (l2.0, l2.1, (l3.0, l3.1, (l4.0, l4.1, (l5.0, l5.1, commands_are_lines h.command_lines s.commands h.commands))))) in
     let cut = ap lines h.spelled ∙ lines_of_text (h.algorithm_line ∷ h.key_line ∷ h.randomness_line ∷ h.tree_line ∷ h.start_line ∷ h.command_lines) all in
     rw (
       cut,

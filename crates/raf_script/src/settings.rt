@@ -148,12 +148,7 @@ fn version_at(number: u64, word: &[u8]) -> Result<Version, ScriptError>
 }
 
 // What a storage holds, or the chunk size of a new file of version 1.
-fn start_of_two(
-    alloc: Global,
-    number: u64,
-    word: &[u8],
-    text: &[u8],
-) -> Result<Start, ScriptError>
+fn start_of_two(alloc: Global, number: u64, word: &[u8], text: &[u8]) -> Result<Start, ScriptError>
     ensures { Gives (λ s. s) result (start_words number (word.now ∷ text.now ∷ [])) }
 {
     if word == b"storage".as_slice() {

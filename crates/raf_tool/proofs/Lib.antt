@@ -1,3 +1,5 @@
 -- Lemmas of the program.
 pub mod StreamLemmas
 pub mod PutLemmas
+pub mod RunningLemmas
+pub mod AnswerLemmas

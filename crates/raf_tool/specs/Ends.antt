@@ -1,6 +1,5 @@
 -- How a run over a script's content may end (this project's own).
-use Rattle.std.specs.Prelude.{◌≡◌, ◌⊎◌, [], ℕ, true, false, List, Option, Some, None, Result, Err}
-use Rattle.aegis_core.specs.Sealing.{key_len}
+use Rattle.std.specs.Prelude.{◌≡◌, ◌⊎◌, [], ℕ, true, false, List, Option, Some, None, Err}
 use Rattle.raf_format.specs.Cipher.{Cipher, cipher_of}
 use Rattle.raf_format.specs.Numbers.{variant_of}
 use Rattle.raf_format.specs.Version.{version_number}
