@@ -1,8 +1,5 @@
 pub mod Streams
 pub mod Memory
-pub mod Words
-pub mod Lines
-pub mod Reading
-pub mod Script
 pub mod Text
+pub mod Ends
 pub mod Run

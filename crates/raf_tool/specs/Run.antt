@@ -1,21 +1,19 @@
 -- What a run of the program answers, and when. Words, statuses and texts are this project's own.
-use Rattle.std.specs.Prelude.{◌≡◌, ◌⊎◌, ◌∷◌, [], ◌<◌, ◌≤◌, ◌-◌, ◌^◌, ◌==◌, ℕ, Bool, true, false, List, length, codes, Option, Some, None, Result, Ok, Err, IfSome, if◌then◌else◌, bytes_eq, slice_get}
+use Rattle.std.specs.Prelude.{◌≡◌, ◌⊎◌, ◌∷◌, [], ◌<◌, ◌≤◌, ◌-◌, ◌^◌, ◌==◌, ℕ, Bool, true, false, List, length, codes, decimal, Option, Some, None, Result, Ok, Err, IfSome, if◌then◌else◌, bytes_eq, slice_get}
 use Rattle.std.specs.Io.KnownBytes.{Appends, IsAtEnd}
 use Rattle.counts.specs.Counts.{Rose}
 use Rattle.raf_io.specs.Kinds.{kind_of}
-use Rattle.raf.specs.Kinds.{is_fault}
+use Rattle.raf.specs.Due.{is_fault}
 use Rattle.raf_io.specs.declared.errors.Error.{Error}
 use Rattle.raf_io.specs.declared.errors.ErrorKind.{ErrorKind}
 use Rattle.raf_io.specs.declared.errors.ErrorKind.TheVariants as kinds
 use Rattle.raf.specs.declared.command.Reply.{Reply}
 use Rattle.raf.specs.declared.command.Reply.TheVariants as replies
-use Rattle.raf.specs.Cipher.{cipher_of}
-use Rattle.raf.specs.Outside.{Outside}
-use Rattle.raf.specs.Session.{Meets}
 use Rattle.raf_tool.specs.Streams.{AppendsPrefix}
-use Rattle.raf_tool.specs.Script.{Spells}
-use Rattle.raf_tool.specs.Text.{end_text}
-use Rattle.raf_tool.specs.declared.script.Script.{Script}
+use Rattle.raf_script.specs.Script.{Spells, IsFirstWrong}
+use Rattle.raf_tool.specs.Text.{line, end_text}
+use Rattle.raf_tool.specs.Ends.{Ends}
+use Rattle.raf_script.specs.declared.script.Script.{Script}
 use Rattle.raf_tool.specs.declared.answer.End.{End}
 use Rattle.raf_tool.specs.declared.answer.Answer.{Answer}
 use Rattle.raf_tool.specs.declared.answer.Answer.TheVariants as answers
@@ -50,7 +48,8 @@ outcome_status (Err e) = refused_status (kind_of e)
 abbrev pub status_of : Answer → ℕ
 status_of answers.Usage = 1
 status_of answers.ReadFault = 5
-status_of answers.Unbuilt = 2
+status_of answers.Long = 2
+status_of (answers.Wrong n) = 2
 status_of answers.OutOfMemory = 7
 status_of (answers.Ended end) = outcome_status end.outcome
 
@@ -58,7 +57,8 @@ status_of (answers.Ended end) = outcome_status end.outcome
 abbrev pub text_of : Answer → List ℕ
 text_of answers.Usage = codes "usage: raf_tool script\n"
 text_of answers.ReadFault = []
-text_of answers.Unbuilt = codes "script unbuilt\n"
+text_of answers.Long = codes "script long\n"
+text_of (answers.Wrong n) = line (codes "script line ") (decimal n)
 text_of answers.OutOfMemory = []
 text_of (answers.Ended end) = if outcome_status end.outcome == 7 then [] else end_text end
 
@@ -70,31 +70,15 @@ pub record Input : Type 0 where
   pub faults : ℕ
   pub faults_after : ℕ
 
--- The bytes are no script of this stage: they are too many, or spell no content.
-abbrev pub IsUnbuilt : List ℕ → Type 0
-IsUnbuilt bytes = (2 ^ 26 < length bytes) ⊎ ((s : Script) → Spells bytes s → ⊥)
+-- a script has at most 2 ^ 26 bytes
+abbrev pub IsLong : List ℕ → Type 0
+IsLong bytes = 2 ^ 26 < length bytes
 
--- the storage of a session: memory that holds these bytes, none of them durable, and the random source, these bytes; no call was made
-abbrev pub fresh : List ℕ → List ℕ → Outside
-fresh storage random = record {
-  bytes = Some storage;
-  durable = Some [];
-  io_faults = 0;
-  reach = 0;
-  traffic = 0;
-  changes = 0;
-  strays = 0;
-  left = Some random;
-  rng_faults = 0;
-  asked = 0;
-}
-
--- a session of the script's algorithm, key and commands, over its storage and its random bytes, may end so: its outcome meets what is
--- proved of sessions, and these are the bytes that the storage was handed back with
-pub record Ends (s : Script) (end : End) : Type 0 where
-  pub after : Outside
-  pub meets : Meets (cipher_of s.algorithm) s.key s.commands (fresh s.storage s.random) after end.outcome
-  pub storage : after.bytes ≡ Some end.storage
+-- The bytes are no script, and line n is the first that doesn't fit its place.
+pub record IsWrong (n : ℕ) (bytes : List ℕ) : Type 0 where
+  pub short : length bytes ≤ 2 ^ 26
+  pub first : IsFirstWrong bytes n
+  pub none : (s : Script) → Spells bytes s → ⊥
 
 -- The bytes are a script, and this is how a session over its content may end.
 pub record Answers (bytes : List ℕ) (end : End) : Type 0 where
@@ -107,7 +91,8 @@ pub record Answers (bytes : List ℕ) (end : End) : Type 0 where
 abbrev pub IsDue : Input → Answer → Type 0
 IsDue m answers.Usage = (m.form ≡ false) × (m.faults_after ≡ m.faults) × (m.after ≡ m.left)
 IsDue m answers.ReadFault = (m.form ≡ true) × Rose m.faults m.faults_after
-IsDue m answers.Unbuilt = (m.form ≡ true) × (m.faults_after ≡ m.faults) × IfSome m.left IsUnbuilt
+IsDue m answers.Long = (m.form ≡ true) × (m.faults_after ≡ m.faults) × IfSome m.left IsLong
+IsDue m (answers.Wrong n) = (m.form ≡ true) × (m.faults_after ≡ m.faults) × IfSome m.left (IsWrong n)
 IsDue m answers.OutOfMemory = (m.form ≡ true) × (m.faults_after ≡ m.faults)
 IsDue m (answers.Ended end) = (m.form ≡ true) × (m.faults_after ≡ m.faults) × IsAtEnd m.after × IfSome m.left (λ bytes. Answers bytes end)
 

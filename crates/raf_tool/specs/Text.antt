@@ -5,7 +5,7 @@ use Rattle.std.specs.Io.KnownBytes.{Appends}
 use Rattle.hex.specs.Hex.{encode_lower}
 use Rattle.counts.specs.Counts.{HasCause}
 use Rattle.raf_io.specs.Kinds.{kind_of}
-use Rattle.raf.specs.Kinds.{is_fault}
+use Rattle.raf.specs.Due.{is_fault}
 use Rattle.raf_io.specs.declared.errors.Error.{Error}
 use Rattle.raf_io.specs.declared.errors.ErrorKind.{ErrorKind}
 use Rattle.raf_io.specs.declared.errors.ErrorKind.TheVariants as kinds
@@ -44,7 +44,6 @@ word kinds.Rng = codes "rng"
 word kinds.Hash = codes "hash"
 word kinds.Broken = codes "broken"
 word kinds.OutOfMemory = codes "memory"
-word kinds.Unbuilt = codes "unbuilt"
 
 -- hex in lower case, no bytes as `-`
 unfoldable pub hex_word : List ℕ → List ℕ

@@ -2,10 +2,10 @@
 
 use aegis::raf::{Data, Error, Replies};
 
-/// How a session ended: its replies or its refusal, and the bytes of the storage that it handed back.
+/// How a script's run ended: the replies or the refusal, and the bytes of the storage that it handed back.
 #[derive(Drop)]
 pub struct End {
-    /// The replies, or why the session was refused.
+    /// The replies, or why there are none.
     pub outcome: Result<Replies, Error>,
     /// The bytes of the storage afterwards.
     pub storage: Data,
@@ -18,10 +18,12 @@ pub enum Answer {
     Usage,
     /// The source failed.
     ReadFault,
-    /// The source has more than 2^26 bytes, or they are no script of this stage.
-    Unbuilt,
+    /// The source has more than 2^26 bytes.
+    Long,
+    /// The source's bytes are no script, and this is the first wrong line.
+    Wrong(u64),
     /// No memory was found for the script.
     OutOfMemory,
-    /// A session was run over the script.
+    /// The script was run.
     Ended(End),
 }

@@ -4,21 +4,20 @@
 mod answer;
 #[cfg(test)]
 mod examples;
-mod lines;
 mod memory;
 #[cfg(test)]
 mod names;
 mod output;
 mod program;
-mod script;
-mod settings;
+#[cfg(test)]
+mod rows;
+mod running;
+mod seed;
 mod standard;
 mod streams;
 #[cfg(test)]
 mod tests;
-mod values;
 mod whole;
-mod words;
 
 use aegis::raf::MemIo;
 use program::{Words, run};

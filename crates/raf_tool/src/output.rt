@@ -2,7 +2,7 @@
 ghost use Rattle.std.specs.Prelude.{◌≡◌, ◌+◌, ◌*◌, ◌≤◌, ◌<◌, length, decimal, ℕ, List};
 ghost use Rattle.std.specs.List.{flat_map};
 ghost use Rattle.hex.specs.Hex.{encode_lower};
-ghost use Rattle.raf.specs.Kinds.{is_fault};
+ghost use Rattle.raf.specs.Due.{is_fault};
 ghost use Rattle.raf.specs.declared.command.Reply.TheVariants as replies;
 ghost use Rattle.raf_tool.specs.Text as spec;
 ghost use Rattle.raf_tool.specs.Text.{Puts, line, hex_word, reply_line, refused_line, word, end_text, outcome_text, item_at};
@@ -82,7 +82,8 @@ fn put_line<K: Sink>(sink: &mut K, name: &[u8], argument: &[u8]) -> Result<(), F
     put(sink, out)
 }
 
-fn put_number<K: Sink>(sink: &mut K, name: &[u8], number: u64) -> Result<(), Failed>
+/// A name, a number and LF.
+pub fn put_number<K: Sink>(sink: &mut K, name: &[u8], number: u64) -> Result<(), Failed>
     requires { length name.now < 16 }
     ensures { Puts (K.written sink.old) (K.written sink.new) (K.faults sink.old) (K.faults sink.new) result (line name.now (decimal number)) }
 {
@@ -133,7 +134,6 @@ fn kind_word(kind: ErrorKind) -> &'static [u8]
         ErrorKind::Hash => b"hash",
         ErrorKind::Broken => b"broken",
         ErrorKind::OutOfMemory => b"memory",
-        ErrorKind::Unbuilt => b"unbuilt",
     }
 }
 

@@ -1,21 +1,17 @@
 //! The top call: the words and a script in, replies and a status out.
 ghost use Rattle.std.specs.Prelude.{◌≡◌, ◌+◌, ◌-◌, ◌^◌, List, ℕ, map, string_bytes, length, slice_get};
-ghost use Rattle.aegis_core.specs.declared.variant.Variant.TheVariants as variants;
 ghost use Rattle.raf_tool.specs.Streams.{ConsumesAtMost};
 ghost use Rattle.raf_tool.specs.Text.{Puts};
 ghost use Rattle.raf_tool.specs.Run as spec;
-ghost use Rattle.raf_tool.specs.Run.{IsDue, Runs, Ends, status_of, text_of, outcome_status, refused_status, last_status, is_form, is_io};
+ghost use Rattle.raf_tool.specs.Run.{IsDue, Runs, status_of, text_of, outcome_status, refused_status, last_status, is_form, is_io};
 
 use crate::answer::{Answer, End};
-use crate::output::{put, put_end};
-use crate::script::{Script, ScriptError};
-use crate::settings::parse;
+use crate::output::{put, put_end, put_number};
+use crate::running::run_script;
 use crate::streams::{Failed, Sink, Source};
 use crate::whole::{ReadError, read_whole};
-use aegis::raf::{
-    Aegis128L, Algorithm, Data, Error, ErrorKind, MemIo, NoMerkle, RafBuilder, RafIo, Replies,
-    Reply, SessionEnd, VecRng, session,
-};
+use aegis::raf::{Error, ErrorKind, RafIo, Replies, Reply};
+use raf_script::{ScriptError, parse};
 use std::alloc::Global;
 use std::marker::Model;
 
@@ -58,41 +54,6 @@ pub struct Ran<I> {
     pub disk: Option<I>,
 }
 
-// The outcome of a session over the script's content, and the bytes of its storage afterwards.
-fn session_of(alloc: Global, script: Script) -> End
-    requires algorithm { script.algorithm ≡ variants.Aegis128L }
-    requires key { length script.key ≡ 16 }
-    ensures { Ends script result }
-{
-    let Script {
-        algorithm: _,
-        key,
-        random,
-        storage,
-        commands,
-    } = script;
-    let key = Aegis128L::key_from(key.as_slice());
-    let io = MemIo::new(alloc, storage.into_vec(), Vec::new(alloc));
-    let builder = RafBuilder::new(VecRng::new(random.into_vec()));
-    let end = session::<Aegis128L, MemIo, VecRng, NoMerkle>(
-        alloc,
-        builder,
-        io,
-        &key,
-        commands.as_slice(),
-    );
-    let SessionEnd {
-        outcome,
-        io,
-        rng: _,
-        hasher: _,
-    } = end;
-    End {
-        outcome,
-        storage: Data::from_vec(io.into_bytes()),
-    }
-}
-
 // What there is to answer, and why.
 fn answer<S: Source>(alloc: Global, words: &Words, source: &mut S) -> Answer
     ensures due { IsDue (record { form = is_form words.now; left = S.left source.old; after = S.left source.new; faults = S.faults source.old; faults_after = S.faults source.new }) result }
@@ -104,12 +65,12 @@ fn answer<S: Source>(alloc: Global, words: &Words, source: &mut S) -> Answer
     let text = match read_whole(alloc, source, MOST) {
         Ok(text) => text,
         Err(ReadError::Failed) => return Answer::ReadFault,
-        Err(ReadError::TooLong) => return Answer::Unbuilt,
+        Err(ReadError::TooLong) => return Answer::Long,
         Err(ReadError::OutOfMemory) => return Answer::OutOfMemory,
     };
     match parse(alloc, &text) {
-        Ok(script) => Answer::Ended(session_of(alloc, script)),
-        Err(ScriptError::Line(_)) => Answer::Unbuilt,
+        Ok(script) => Answer::Ended(run_script(alloc, script)),
+        Err(ScriptError::Line(number)) => Answer::Wrong(number),
         Err(ScriptError::OutOfMemory) => Answer::OutOfMemory,
     }
 }
@@ -166,7 +127,7 @@ fn status(answer: &Answer) -> u8
     match answer {
         Answer::Usage => 1,
         Answer::ReadFault => 5,
-        Answer::Unbuilt => 2,
+        Answer::Long | Answer::Wrong(_) => 2,
         Answer::OutOfMemory => 7,
         Answer::Ended(end) => outcome_status(&end.outcome),
     }
@@ -179,7 +140,8 @@ fn put_answer<K: Sink>(sink: &mut K, answer: &Answer) -> Result<(), Failed>
     match answer {
         Answer::Usage => put(sink, b"usage: raf_tool script\n"),
         Answer::ReadFault => put(sink, b""),
-        Answer::Unbuilt => put(sink, b"script unbuilt\n"),
+        Answer::Long => put(sink, b"script long\n"),
+        Answer::Wrong(number) => put_number(sink, b"script line ", *number),
         Answer::OutOfMemory => put(sink, b""),
         Answer::Ended(end) => {
             if outcome_status(&end.outcome) == 7 {
@@ -191,16 +153,16 @@ fn put_answer<K: Sink>(sink: &mut K, answer: &Answer) -> Result<(), Failed>
     }
 }
 
-/// All that the program does: it reads a script from the source to its end, runs a session over the script's
-/// storage, and writes the replies and the storage to the sink. It answers the status, and hands the disk back.
+/// All that the program does: it reads a script from the source to its end, runs its commands over the
+/// script's storage, and writes the replies and the storage to the sink. It answers the status, and hands the disk back.
 ///
 /// | status | where, the first that stands |
 /// |---|---|
 /// | 1 | the words aren't `script` |
 /// | 5 | the source failed |
-/// | 2 | the source has more than 2^26 bytes, or they are no script of this stage |
+/// | 2 | the source has more than 2^26 bytes, or they are no script: the text names the first wrong line |
 /// | 7 | no memory was found |
-/// | 3 | the session was refused |
+/// | 3 | the file was refused, as it was made or opened |
 /// | 4 | the last reply is a fault |
 /// | 0 | else |
 /// | 6 | the sink failed, whatever stands above |

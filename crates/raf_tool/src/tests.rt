@@ -1,4 +1,4 @@
-//! Runs of the program: its texts, its statuses, and what a failing source or sink leaves.
+//! Runs of the program: its usage, and what a failing source or sink leaves.
 
 use crate::memory::{VecSink, VecSource};
 use crate::program::{Words, run};
@@ -8,7 +8,6 @@ use aegis::raf::{Aegis128L, Header, MemIo, write_header};
 use std::alloc::{AllocError, Global};
 use std::io;
 use std::io::{Read, Write};
-use std::process::Abort;
 use std::test::Fail;
 
 const KEY: [u8; 16] = [0, 1, 2, 3, 4, 5, 6, 7, 8, 9, 10, 11, 12, 13, 14, 15];
@@ -20,10 +19,6 @@ const HEAD: &str =
 /// The storage of an empty file of chunk size 16 and zero id under the key, by an independent program.
 const EMPTY: &str =
     "5345414c5241463101010000100000000000000000000000000000000000000000000000000000000000000000000000000000000000000000000000000000009fe56d23cdb860f83f14c8cd69efa5e50b15a92481f0c7e752cf7815ce074f49";
-
-/// The same, but for the last byte of the header's tag.
-const CHANGED: &str =
-    "5345414c5241463101010000100000000000000000000000000000000000000000000000000000000000000000000000000000000000000000000000000000009fe56d23cdb860f83f14c8cd69efa5e50b15a92481f0c7e752cf7815ce074f48";
 
 /// The storage after `hello` was written to it under a nonce of zeros, by the same program.
 const HELLO: &str =
@@ -46,13 +41,12 @@ fn joined(alloc: Global, pieces: &[&str]) -> Result<Vec<u8>, AllocError> {
     Ok(text)
 }
 
-// A run: what its script has after the fourth line, its replies, the storage afterwards, and its status.
+// A run: what its script has after the fourth line, its replies, and the storage afterwards.
 struct Case {
     storage: &'static str,
     commands: &'static str,
     replies: &'static str,
     after: &'static str,
-    status: u8,
 }
 
 const GREETING: Case = Case {
@@ -60,50 +54,7 @@ const GREETING: Case = Case {
     commands: "size\nwrite 0 68656c6c6f\nread 0 16\nsize\n",
     replies: "size 0\nwrote 5\nbytes 68656c6c6f\nsize 5\n",
     after: HELLO,
-    status: 0,
 };
-
-const CASES: [Case; 6] = [
-    GREETING,
-    // upper case hex is read
-    Case {
-        storage: EMPTY,
-        commands: "write 0 68656C6C6F\n",
-        replies: "wrote 5\n",
-        after: HELLO,
-        status: 0,
-    },
-    // a write past the chunk is refused, one of no bytes isn't
-    Case {
-        storage: EMPTY,
-        commands: "write 12 0102030405\nwrite 18446744073709551615 -\nsize\n",
-        replies: "refused unbuilt\nwrote 0\nsize 0\n",
-        after: EMPTY,
-        status: 0,
-    },
-    Case {
-        storage: CHANGED,
-        commands: "size\n",
-        replies: "error authentication\n",
-        after: CHANGED,
-        status: 3,
-    },
-    Case {
-        storage: "-",
-        commands: "size\n",
-        replies: "error unbuilt\n",
-        after: "-",
-        status: 3,
-    },
-    // the random source gives no second nonce
-    Case {
-        storage: EMPTY,
-        commands: "write 0 68656c6c6f\nwrite 0 aa\nsize\n",
-        replies: "wrote 5\nfault rng\n",
-        after: HELLO,
-        status: 4,
-    },
-];
 
 fn script_of(alloc: Global, case: &Case) -> Result<Vec<u8>, AllocError> {
     joined(
@@ -126,23 +77,6 @@ fn status_of<S: Source>(
     Ok(run(alloc, &words, source, sink, None::<MemIo>).status)
 }
 
-// The script has this text and this status.
-fn gives(
-    rt: &impl Abort,
-    alloc: Global,
-    script: Vec<u8>,
-    text: &[u8],
-    status: u8,
-    name: &str,
-) -> Result<(), Fail> {
-    let mut source = VecSource::new(script, Vec::new(alloc));
-    let mut sink = VecSink::new(alloc, Vec::new(alloc));
-    let ended = status_of(alloc, &mut source, &mut sink)?;
-    assert_eq!(rt; sink.written(), text, "after {name}");
-    assert_eq!(rt; ended, status, "after {name}");
-    Ok(())
-}
-
 #[test]
 fn an_empty_file_is_the_independent_programs(rt: HostRuntime) -> Result<(), Fail> {
     let mut header = [0; 96];
@@ -155,67 +89,6 @@ fn an_empty_file_is_the_independent_programs(rt: HostRuntime) -> Result<(), Fail
     };
     write_header::<Aegis128L>(&fields, &KEY, &mut header);
     assert_eq!(rt; hex::encode(rt.alloc(), header.as_slice())?.as_str(), EMPTY);
-    Ok(())
-}
-
-#[test]
-fn scripts_are_answered(rt: HostRuntime) -> Result<(), Fail> {
-    let alloc = rt.alloc();
-    for case in &CASES {
-        let (script, text) = (script_of(alloc, case)?, text_of(alloc, case)?);
-        gives(&rt, alloc, script, &text, case.status, case.commands)?;
-    }
-    Ok(())
-}
-
-const SETTINGS: &str = "key 000102030405060708090a0b0c0d0e0f\nrandom -\nmerkle none\nstorage -\n";
-
-// Texts that are no script, each in two parts.
-const WRONG: [(&str, &str); 23] = [
-    ("", ""),
-    // no LF at the end of line 1, 5 or 6
-    ("alg aegis128l", ""),
-    (HEAD, "storage -"),
-    (HEAD, "storage -\nsize"),
-    // a wrong or missing setting
-    ("alg aegis128\n", SETTINGS),
-    ("alg  aegis128l\n", SETTINGS),
-    (
-        "alg aegis128l\nkey 0001\n",
-        "random -\nmerkle none\nstorage -\n",
-    ),
-    (
-        "alg aegis128l\nkey 000102030405060708090a0b0c0d0e0f\nseed -\n",
-        "merkle none\nstorage -\n",
-    ),
-    (
-        "alg aegis128l\nkey 000102030405060708090a0b0c0d0e0f\nrandom -\n",
-        "merkle sha256 4\nstorage -\n",
-    ),
-    (HEAD, "create 16\n"),
-    (HEAD, "storage 010\n"),
-    (HEAD, "storage 0g\n"),
-    // a wrong command
-    (HEAD, "storage -\n\n"),
-    (HEAD, "storage -\n size\n"),
-    (HEAD, "storage -\nsize \n"),
-    (HEAD, "storage -\nsize 1\n"),
-    (HEAD, "storage -\nread 0\n"),
-    (HEAD, "storage -\nread 007 1\n"),
-    (HEAD, "storage -\nread +7 1\n"),
-    (HEAD, "storage -\nread 0 18446744073709551616\n"),
-    (HEAD, "storage -\nread 0 1 2\n"),
-    (HEAD, "storage -\nwrite 0 \n"),
-    (HEAD, "storage -\nsize\nsync\nsize\n"),
-];
-
-#[test]
-fn wrong_scripts_are_refused(rt: HostRuntime) -> Result<(), Fail> {
-    let alloc = rt.alloc();
-    for (front, rest) in &WRONG {
-        let script = joined(alloc, &[front, rest])?;
-        gives(&rt, alloc, script, b"script unbuilt\n", 2, rest)?;
-    }
     Ok(())
 }
 
