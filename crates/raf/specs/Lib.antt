@@ -19,3 +19,4 @@ pub mod Ran
 pub mod Growing
 pub mod Verifying
 pub mod Complete
+pub mod Lending

@@ -7,6 +7,8 @@ ghost use Rattle.raf.specs.Handle.{Holds, Paired, handle_of, hash_len_of};
 ghost use Rattle.raf.specs.Read.{OldOrOpened};
 ghost use Rattle.raf.specs.Stepped.{Stepped, read_reply, write_reply, done_reply, verify_reply, commitment_reply};
 ghost use Rattle.raf_io.specs.Kinds.{kind_of};
+ghost use Rattle.std.specs.Borrow.{sem};
+ghost use Rattle.raf.specs.Lending.{lends_storage, with_storage};
 
 use crate::changing::{truncate_to, write_bytes};
 use crate::command::Command;
@@ -163,7 +165,10 @@ impl<A: Algorithm, I: RafIo, R: RafRng, H: MerkleHasher> Raf<A, I, R, H> {
 
     /// The storage. What it holds afterwards is the caller's affair: the file's calls state what they do over a storage whose first 96
     /// bytes and whose length are as before.
-    pub fn storage_mut(&mut self) -> &mut I {
+    pub fn storage_mut(&mut self) -> &mut I
+        ensures* writes_back { sem 𝓛 (lends_storage A.row I.row R.row H.row A.Key.row A.Algorithm I.RafIo R.RafRng H.MerkleHasher self.entry result) }
+        ensures value { with_storage I.RafIo self.old result.now ≡ self.old }
+    {
         &mut self.parts.io
     }
 
