@@ -1,12 +1,11 @@
 -- A change as a whole: refused before it was begun, carried out, or cut short.
-use Rattle.std.proofs.Common.{◌≡◌, inl, inr, ℕ, ◌+◌, ◌-◌, ◌*◌, ◌<◌, ◌≤◌, min, max, Bool, true, false, cond, List, [], ◌∷◌, ◌++◌, length, take, drop, Option, Some, None, Result, Ok, Err, refl, sym, ◌∙◌, ap, subst, arith, length-append, length-take, take-append-drop}
-use Rattle.std.specs.Prelude.{if◌then◌else◌, nat_lt, nat_eq, ◌⊎◌}
+use Rattle.std.proofs.Common.{◌≡◌, inl, inr, ℕ, ◌+◌, ◌-◌, ◌*◌, ◌<◌, ◌≤◌, max, Bool, true, false, cond, List, [], ◌∷◌, ◌++◌, length, take, drop, Option, Some, None, Result, Ok, Err, refl, sym, ◌∙◌, ap, subst, arith, length-append, length-take, take-append-drop}
+use Rattle.std.specs.Prelude.{if◌then◌else◌, nat_lt, nat_eq}
 use Rattle.std.proofs.lemmas.List.{drop_all}
 use Rattle.std.proofs.lemmas.Nat.{mul-le}
 use Rattle.std.proofs.lemmas.Bool.{cases_lt, false≢true}
 use Rattle.std.proofs.lemmas.Bool.Decides.{nat_tests}
-use Rattle.counts.specs.Counts.{Rose}
-use Rattle.raf_io.specs.Source.{Takes, TakesAtMost, IsShort}
+use Rattle.raf_io.specs.Source.{Takes, TakesAtMost}
 use Rattle.raf_io.specs.Kinds.{kind_of}
 use Rattle.raf_tree.specs.Hashing.{Hashing}
 use Rattle.raf_tree.specs.Kept.{Kept}
@@ -14,12 +13,12 @@ use Rattle.raf_tree.specs.Steps.{Updated}
 use Rattle.raf_format.specs.Cipher.{Cipher}
 use Rattle.raf_format.specs.File.{Shape, shape_of, layout_len}
 use Rattle.raf_format.specs.Header.{sealed_header}
-use Rattle.raf.specs.Handle.{Handle, handle_of, WithTree}
-use Rattle.raf.specs.Outside.{Outside, Quiet, Caused, Moved, MayHaveBegun}
+use Rattle.raf.specs.Handle.{handle_of}
+use Rattle.raf.specs.Outside.{Outside, Quiet, Moved, MayHaveBegun}
 use Rattle.raf.specs.Plan.{Planned}
-use Rattle.raf.specs.Put.{stride, placed, nonce_at, finished, put_chunk, record_for, KeptOf, Misses, Unready, Carried, Changing, LeavesUpTo, TreeCarried, Hashed, needed_records, new_records, changes_of}
+use Rattle.raf.specs.Put.{stride, placed, nonce_at, finished, put_chunk, record_for, Unready, Changing, LeavesUpTo, TreeCarried, Hashed, needed_records, new_records, changes_of}
 use Rattle.raf.specs.Stepped.{with_size}
-use Rattle.raf.specs.Carry.{SameTree, OfTrees, Hindered, Unprepared, StoredUpTo, Prepares, Commits, buffer_of, kept_in}
+use Rattle.raf.specs.Carry.{SameTree, OfTrees, Hindered, Unprepared, Prepares, Commits, buffer_of, kept_in}
 use Rattle.raf.specs.declared.planning.Plan.{Plan}
 use Rattle.raf_format.specs.declared.header.Header.{Header}
 use Rattle.raf_io.specs.declared.errors.Error.{Error}

@@ -1,5 +1,5 @@
 -- A change that was not carried out, as its command's step.
-use Rattle.std.proofs.Common.{◌≡◌, ◌≢◌, inl, inr, ℕ, ◌+◌, ◌-◌, ◌*◌, ◌<◌, ◌≤◌, min, Bool, true, false, cond, ◌&&◌, List, [], length, Option, Some, Err, refl, sym, ◌∙◌, ap, subst, arith}
+use Rattle.std.proofs.Common.{◌≡◌, inl, inr, ℕ, ◌+◌, ◌-◌, ◌*◌, ◌<◌, ◌≤◌, min, Bool, true, false, cond, ◌&&◌, List, [], length, Option, Some, Err, refl, sym, ◌∙◌, ap, subst, arith}
 use Rattle.std.specs.Prelude.{◌⊎◌, is_some, nat_lt, nat_le}
 use Rattle.std.proofs.lemmas.Bool.{cases_lt, cases_Bool, false≢true, lt-ltb}
 use Rattle.std.proofs.lemmas.Bool.Decides.{nat_tests}
@@ -12,7 +12,7 @@ use Rattle.raf_format.specs.Cipher.{Cipher, IsLawful}
 use Rattle.raf_format.specs.File.{File, Shape, IsFile, shape_of, chunk_count, chunks_from, file_of}
 use Rattle.raf.specs.Due.{Due, Answers, is_fault, is_refused, is_barred}
 use Rattle.raf.specs.Due.Due.{Exactly}
-use Rattle.raf.specs.Concern.{is_touched, is_needed, needed, touched, none_missing, sum_where}
+use Rattle.raf.specs.Concern.{is_touched, is_needed, touched, none_missing, sum_where}
 use Rattle.raf.specs.Apply.{apply}
 use Rattle.raf.specs.Change.{Change, change_of}
 use Rattle.raf.specs.Image.{image, bytes_after, asked_by, calls_by}

@@ -1,9 +1,9 @@
 -- The chunks of a file, one by one.
-use Rattle.std.proofs.Common.{◌≡◌, inl, inr, ℕ, zero, suc, ◌+◌, ◌-◌, ◌*◌, ◌<◌, ◌≤◌, min, List, [], ◌∷◌, length, take, drop, Option, Some, None, refl, sym, ◌∙◌, ap, subst, arith, length-take, length-drop}
+use Rattle.std.proofs.Common.{◌≡◌, ℕ, zero, suc, ◌+◌, ◌<◌, ◌≤◌, List, length, take, drop, Option, Some, refl, sym, ◌∙◌, ap, arith, length-take, length-drop}
 use Rattle.std.specs.Prelude.{slice_get}
 use Rattle.std.proofs.lemmas.Option.{slice_get_within}
 use Rattle.raf_format.specs.Cipher.{Cipher, IsLawful}
-use Rattle.raf_format.specs.File.{shape_of, tag_len, layout_len, chunk_count, chunk_len, record_start, record_len, record_at, chunk_at, chunks_from, beside}
+use Rattle.raf_format.specs.File.{shape_of, layout_len, chunk_count, chunk_len, record_start, record_len, record_at, chunk_at, chunks_from, beside}
 use Rattle.raf_format.specs.Version.{tag_len_of}
 use Rattle.raf.specs.Read.{chunks_of}
 use Rattle.raf_format.specs.declared.header.Header.{Header}

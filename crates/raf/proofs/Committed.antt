@@ -1,31 +1,31 @@
 -- A change that was made ready is carried out: the touched chunks, the header and the cut, and the tree.
-use Rattle.std.proofs.Common.{◌≡◌, inl, inr, ℕ, ◌+◌, ◌-◌, ◌*◌, ◌<◌, ◌≤◌, min, max, Bool, true, false, cond, List, [], length, take, drop, Option, Some, None, Result, Ok, Err, refl, sym, ◌∙◌, ap, subst, arith, length-drop}
+use Rattle.std.proofs.Common.{◌≡◌, inl, inr, ℕ, ◌+◌, ◌-◌, ◌*◌, ◌≤◌, Bool, true, false, cond, List, length, drop, Option, Some, None, Result, Ok, Err, refl, sym, ◌∙◌, ap, subst, arith, length-drop}
 use Rattle.std.specs.Prelude.{if◌then◌else◌, nat_lt, nat_eq}
 use Rattle.std.specs.Result.{OnOk, OnErr, IfErr}
 use Rattle.std.proofs.lemmas.Nat.{mul-le}
-use Rattle.counts.specs.Counts.{Rose, raised}
-use Rattle.raf_io.specs.Source.{Takes, TakesAtMost}
+use Rattle.counts.specs.Counts.{Rose}
+use Rattle.raf_io.specs.Source.{TakesAtMost}
 use Rattle.raf_io.specs.Kinds.{kind_of}
 use Rattle.raf_tree.specs.Hashing.{Hashing}
 use Rattle.raf_tree.specs.Kept.{Kept, tree_height}
 use Rattle.raf_tree.specs.Tree.{height}
 use Rattle.raf_tree.specs.Steps.{Updated, UpdateCalls}
 use Rattle.raf_format.specs.Cipher.{Cipher}
-use Rattle.raf_format.specs.File.{Shape, shape_of, chunk_count, layout_len, record_start}
+use Rattle.raf_format.specs.File.{Shape, shape_of, chunk_count, layout_len}
 use Rattle.raf.specs.Handle.{HasRoom}
-use Rattle.raf.specs.Outside.{Outside, Kept as Kept_, Quiet, Caused, Moved, MayHaveBegun}
+use Rattle.raf.specs.Outside.{Outside, Kept as Kept_, Quiet, Caused, Moved}
 use Rattle.raf.specs.Plan.{Planned}
-use Rattle.raf.specs.Put.{stride, new_records, changes_of, Hashed}
-use Rattle.raf.specs.Carry.{SameTree, OfTrees, HasTree, Hindered, StoredUpTo, Stores, Finishes, Commits, TrimmedTo}
+use Rattle.raf.specs.Put.{new_records, changes_of, Hashed}
+use Rattle.raf.specs.Carry.{SameTree, OfTrees, HasTree, Hindered, Stores, Finishes, Commits, TrimmedTo}
 use Rattle.raf.specs.declared.planning.Plan.{Plan}
 use Rattle.raf_format.specs.declared.header.Header.{Header}
 use Rattle.raf_io.specs.declared.errors.Error.{Error}
 use Rattle.raf_io.specs.declared.errors.ErrorKind.{ErrorKind}
 use Rattle.raf_io.specs.declared.errors.ErrorKind.TheVariants.{Io, Rng, Hash}
 use Rattle.raf.proofs.Moves.{moved_then, moved_less, quiet_then, caused_later}
-use Rattle.raf.proofs.SameTrees.{same_tree_then, same_none, same_room}
+use Rattle.raf.proofs.SameTrees.{same_tree_then, same_room}
 use Rattle.raf.proofs.Spared.{spared_torn, spared_trimmed}
-use Rattle.raf.proofs.PutRecords.{on_ok, on_ok_any, if_err}
+use Rattle.raf.proofs.PutRecords.{on_ok, if_err}
 use Rattle.raf.proofs.Prepared.{on_err, on_err_any, if_err_and}
 
 -- what was hashed, counted exactly

@@ -225,7 +225,7 @@ all_served G F [] (r ∷ replies) all v = absurd all
 all_served G F (c ∷ commands) [] all v = absurd all
 all_served G F (c ∷ commands) (r ∷ replies) (is, all) (v, more) =
     let calm : refuses r ≡ false = answered_is (TreeDecides G.answers G.setting G.limit F c) F c r (decides_calm G.answers G.setting G.limit F c)
-      (subst (λ (d : Due). Answers (TreeDecides G.answers G.setting G.limit F c) d r) (valid_is G.limit F c v) is) in
+    (subst (λ (d : Due). Answers (TreeDecides G.answers G.setting G.limit F c) d r) (valid_is G.limit F c v) is) in
     ap (λ (t : Bool). not t && none_refused replies) calm ∙ all_served G (apply G.limit F c).1 commands replies all more
 
 session_is : (C : Cipher) (lawful : AreLawful C) (E : List ℕ → Hashing) (key b : List ℕ) (F : File) (s : Settings) (commands : List Command) (before after : Outside)
@@ -233,7 +233,7 @@ session_is : (C : Cipher) (lawful : AreLawful C) (E : List ℕ → Hashing) (key
     → CanOpen C E key before.setting s.most b F → room_total (hash_len_of E s.outside.setting) commands < 2 ^ 64 → NoneFailed before after
     → IfErr outcome (λ e. kind_of e ≡ OutOfMemory)
     × IfOk outcome (λ replies. AllAnswer (record { cipher = C; answers = E; setting = s.outside.setting; limit = s.most; key = key }) F commands replies
-        × (AllValid s.most F commands → none_refused replies ≡ true))
+    × (AllValid s.most F commands → none_refused replies ≡ true))
 session_is C lawful E key b F s commands before after (Err e) meets set tells can fits none = (go meets.refused, tt)
   where
     go : Refusal C E key s commands before after (kind_of e) → kind_of e ≡ OutOfMemory

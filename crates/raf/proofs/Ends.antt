@@ -1,32 +1,30 @@
 -- How a run on an open file ends.
-use Rattle.std.proofs.Common.{◌≡◌, inl, inr, Bool, true, false, ℕ, ◌+◌, ◌≤◌, max, List, [], ◌∷◌, ◌++◌, length, take, drop, Option, Some, None, refl, sym, ◌∙◌, ap, subst, arith, length-append, append_assoc}
+use Rattle.std.proofs.Common.{◌≡◌, inl, inr, Bool, true, false, ℕ, List, [], ◌∷◌, ◌++◌, length, take, Option, Some, refl, sym, ◌∙◌, ap, subst, arith, length-append, append_assoc}
 use Rattle.std.proofs.lemmas.List.{take_all, take_at}
 use Rattle.std.proofs.lemmas.Bool.{false≢true}
-use Rattle.raf_io.specs.Source.{Takes, TakesAtMost, IsShort}
+use Rattle.raf_io.specs.Source.{TakesAtMost, IsShort}
 use Rattle.raf_tree.specs.Hashing.{Hashing}
 use Rattle.raf_format.specs.Cipher.{Cipher, IsLawful}
-use Rattle.raf_format.specs.File.{File, Opens, file_layout}
+use Rattle.raf_format.specs.File.{File, Opens}
 use Rattle.raf.specs.Apply.{apply, file_after, longest}
-use Rattle.raf.specs.Image.{traced, asked_by, asked_in, changes_by, changes_in, traffic_by, traffic_in, calls_by, calls_in}
+use Rattle.raf.specs.Image.{traced, asked_by, asked_in, changes_in, traffic_in, calls_in}
 use Rattle.raf.specs.Change.{change_of}
 use Rattle.std.specs.Prelude.{is_some}
 use Rattle.raf.specs.Meaning.{Spares, Faultable}
-use Rattle.raf.specs.Outside.{Outside, Quiet, Caused, Moved}
+use Rattle.raf.specs.Outside.{Outside, Quiet, Moved}
 use Rattle.raf.specs.Handle.{Handle, Holds, WithTree, Grown, limit_of, outline}
-use Rattle.raf.specs.Stepped.{Stepped, Went, Cut, Failed, Bounded, may_settle, may_mark}
-use Rattle.raf.specs.Session.{Ground, AllAnswer, Course, Whole, Faulted, Ran, settled_after, IsDurable, begun}
+use Rattle.raf.specs.Stepped.{Stepped, Went, Bounded, may_settle}
+use Rattle.raf.specs.Session.{Ground, AllAnswer, Course, begun}
 use Rattle.raf.specs.Ran.{ground, SoFar, Progress, NumbersSoFar, Ended}
 use Rattle.raf.proofs.Numbers.{numbers_none, numbers_more, numbers_cut, numbers_whole}
 use Rattle.raf.specs.Due.{is_fault}
 use Rattle.raf.specs.declared.command.Command.{Command}
 use Rattle.raf.specs.declared.command.Command.TheVariants as command
 use Rattle.raf.specs.declared.command.Reply.{Reply}
-use Rattle.raf.specs.declared.command.Reply.TheVariants.{Refused}
-use Rattle.raf_io.specs.declared.errors.ErrorKind.{ErrorKind}
 use Rattle.raf.proofs.Moves.{moved_same, moved_less, moved_then, quiet_same, quiet_then, caused_later, takes_none}
 use Rattle.raf.proofs.Opened.{holds_opens}
 use Rattle.raf.proofs.Progress.{so_far_more}
-use Rattle.raf.proofs.Runs.{asked-push, changes-push, calls-push, traffic-push, longest-push, longest_last, after-push}
+use Rattle.raf.proofs.Runs.{asked-push, changes-push, calls-push, traffic-push, longest-push, longest_last}
 
 same_bytes : (x y : List ℕ) → Some x ≡ Some y → x ≡ y
 same_bytes x y e = cc

@@ -1,17 +1,16 @@
 -- A tree that is made anew from the chunks of a file, leaf by leaf.
-use Rattle.std.proofs.Common.{◌≡◌, inl, inr, Bool, true, false, ℕ, zero, suc, ◌+◌, ◌-◌, ◌*◌, ◌^◌, ◌<◌, ◌≤◌, min, max, List, [], ◌∷◌, length, take, drop, get_or, Option, Some, None, Result, Ok, Err, refl, sym, ◌∙◌, ap, subst, arith}
+use Rattle.std.proofs.Common.{◌≡◌, inl, inr, Bool, true, false, ℕ, zero, suc, ◌+◌, ◌-◌, ◌*◌, ◌^◌, ◌<◌, ◌≤◌, min, List, [], length, get_or, Option, Some, None, Result, Ok, Err, refl, sym, ◌∙◌, ap, subst, arith}
 use Rattle.std.specs.Prelude.{unwrap_or, is_some}
-use Rattle.std.proofs.lemmas.Bool.{cases_lt, cases_eq, false≢true}
+use Rattle.std.proofs.lemmas.Bool.{cases_lt, false≢true}
 use Rattle.std.specs.Result.{OnOk, IfErr}
 use Rattle.counts.specs.Counts.{raised, Rose}
 use Rattle.raf_tree.specs.Hashing.{Hashing}
 use Rattle.raf_tree.specs.Tree.{leaves}
-use Rattle.raf_tree.specs.Kept.{Kept as Tree, Keeps, LeavesPut, kept, tree_height}
+use Rattle.raf_tree.specs.Kept.{Kept as Tree, kept, tree_height}
 use Rattle.raf_tree.specs.Steps.{SameShape, LeafPut, Built}
-use Rattle.raf_tree.specs.Since.{Since}
 use Rattle.raf_tree.specs.Laws.{TreeLaws}
 use Rattle.raf_format.specs.Cipher.{Cipher}
-use Rattle.raf_format.specs.File.{shape_of, tag_len, layout_len, record_start, record_len, chunk_count, chunk_len, chunk_at, chunks_from}
+use Rattle.raf_format.specs.File.{shape_of, tag_len, layout_len, record_start, record_len, chunk_count, chunk_at, chunks_from}
 use Rattle.raf_format.specs.declared.header.Header.{Header}
 use Rattle.raf_io.specs.Kinds.{kind_of}
 use Rattle.raf_io.specs.declared.errors.Error.{Error}

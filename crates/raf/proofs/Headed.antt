@@ -1,19 +1,18 @@
 -- A file whose header was found, and why one was not opened before its tree was made.
-use Rattle.std.proofs.Common.{◌≡◌, inl, inr, ℕ, ◌+◌, ◌-◌, ◌≤◌, ◌<◌, min, max, List, length, Option, Some, None, refl, sym, ◌∙◌, ap, subst, arith}
-use Rattle.std.specs.Prelude.{◌⊎◌, ⊤}
+use Rattle.std.proofs.Common.{◌≡◌, inl, inr, ℕ, ◌+◌, ◌≤◌, min, max, List, length, Option, Some, None, subst, arith}
 use Rattle.raf_tree.specs.Hashing.{Hashing}
 use Rattle.raf_format.specs.Cipher.{Cipher}
-use Rattle.raf_format.specs.Header.{Says, Tagged}
+use Rattle.raf_format.specs.Header.{Tagged}
 use Rattle.raf_format.specs.File.{chunk_count}
 use Rattle.raf_format.specs.declared.header.Header.{Header}
 use Rattle.raf_io.specs.declared.errors.ErrorKind.{ErrorKind}
 use Rattle.raf_io.specs.declared.errors.ErrorKind.TheVariants.{Io, InvalidArgument, AuthenticationFailed, AlreadyExists, NotFound, Overflow, MerkleNotEnabled, CorruptedChunk, Rng, Hash, Broken, OutOfMemory}
 use Rattle.raf_io.specs.declared.errors.Reason.TheVariants as reason
 use Rattle.raf.specs.Outside.{Outside, Kept, Quiet, Moved}
-use Rattle.raf.specs.Opening.{LaidOut, WhyNotLaidOut, WhyNoTree, WhyNotRead, WhyNotOpened, NumbersRefuse, RefusalFault, Room, Looked, Within, NotOpened, TreeMade, opening_traffic}
+use Rattle.raf.specs.Opening.{LaidOut, WhyNotLaidOut, WhyNoTree, WhyNotRead, NumbersRefuse, RefusalFault, Room, Looked, Within, NotOpened, TreeMade, opening_traffic}
 use Rattle.std.specs.Option.{option_map}
 use Rattle.raf_tree.specs.Kept.{Kept as Tree}
-use Rattle.raf.proofs.Moves.{moved_less, moved_later}
+use Rattle.raf.proofs.Moves.{moved_later}
 
 -- no more was asked than the header
 pub looked_bare : (old new : Outside) (most : Option ℕ) → Kept old new → Moved old new 96 96 0 0 0 → ((b : List ℕ) → old.bytes ≡ Some b → Within old new (length b)) → Looked old new most

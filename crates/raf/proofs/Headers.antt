@@ -1,16 +1,10 @@
 -- What is read of a header, and what follows for the whole storage.
-use Rattle.std.proofs.Common.{Bool, ◌≡◌, inl, inr, ℕ, ◌+◌, ◌-◌, ◌*◌, ◌<◌, ◌≤◌, List, [], ◌∷◌, length, take, drop, get_or, Option, Some, sym, ◌∙◌, ap, subst, arith, length-take}
-use Rattle.std.specs.Prelude.{IsTrue, ◌↔◌, nat_eq}
-use Rattle.std.specs.Cmp.Lexicographic.{bytes_decides}
-use lib.Pointwise.{pointwise}
-use Rattle.std.specs.Int.{w32, w64, from_le_bytes}
-use Rattle.std.proofs.lemmas.List.{take-take, drop-take, drop_more, take_all}
-use Rattle.std.proofs.lemmas.Bool.{cases_lt}
-use Rattle.std.proofs.lemmas.Nat.{div_below, le-div, from_le_bytes-to_le_bytes_4, from_le_bytes-to_le_bytes_8}
+use Rattle.std.proofs.Common.{◌≡◌, ℕ, List, length, take, drop, Option, Some, sym, ◌∙◌, ap, subst, arith, length-take}
+use Rattle.std.proofs.lemmas.List.{take-take, drop-take}
 use Rattle.raf_io.specs.Storage.{ReadsFrom}
 use Rattle.raf_format.specs.Cipher.{Cipher}
 use Rattle.raf.specs.Loaded.{Front}
-use Rattle.raf_format.specs.Header.{Says, Tagged, head_of, header_tag, between}
+use Rattle.raf_format.specs.Header.{Says, Tagged, header_tag, between}
 use Rattle.raf_format.specs.declared.header.Header.{Header}
 
 -- the first 96 bytes of what is told

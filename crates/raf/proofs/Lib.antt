@@ -1,5 +1,6 @@
 -- Lemmas.
 pub mod Headers
+pub mod HeaderLooks
 pub mod Places
 pub mod Moves
 pub mod HandedOn

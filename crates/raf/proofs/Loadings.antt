@@ -1,9 +1,8 @@
 -- The record of a chunk that was read, or could not be read.
-use Rattle.std.proofs.Common.{◌≡◌, Bool, true, false, ℕ, ◌+◌, ◌≤◌, List, ◌++◌, length, take, drop, Option, Some, None, Result, Ok, Err, sym, ◌∙◌, ap, subst, arith, length-drop}
-use Rattle.std.proofs.lemmas.List.{take-append-le, drop-append-le}
+use Rattle.std.proofs.Common.{◌≡◌, Bool, true, false, ℕ, ◌+◌, ◌≤◌, List, length, take, drop, Option, Some, None, Result, Ok, Err, sym, ◌∙◌, ap, subst, arith}
 use Rattle.raf_format.specs.Cipher.{Cipher}
-use Rattle.std.specs.Result.{OnOk, IsErrAnd}
-use Rattle.raf_format.specs.File.{chunk_len, chunk_at, shape_of, layout_len, record_start, record_len}
+use Rattle.std.specs.Result.{IsErrAnd}
+use Rattle.raf_format.specs.File.{chunk_at, shape_of, layout_len, record_start, record_len}
 use Rattle.raf.specs.Loaded.{Loads}
 use Rattle.raf.specs.Outside.{Outside, Kept, Caused, Moved}
 use Rattle.raf_io.specs.Kinds.{kind_of}

@@ -1,34 +1,31 @@
 -- A new file, and why one was not made.
-use Rattle.std.proofs.Common.{◌≡◌, inl, inr, Bool, true, false, ℕ, zero, suc, ◌+◌, ◌-◌, ◌*◌, ◌/◌, ◌^◌, ◌≤◌, ◌<◌, max, List, [], ◌∷◌, ◌++◌, length, map, Option, Some, None, Result, Ok, Err, refl, sym, ◌∙◌, ap, subst, arith}
+use Rattle.std.proofs.Common.{◌≡◌, inl, inr, true, false, ℕ, ◌+◌, ◌-◌, ◌*◌, ◌^◌, ◌≤◌, ◌<◌, List, [], ◌∷◌, length, Option, Some, refl, sym, ◌∙◌, ap, subst, arith}
 use Rattle.std.specs.Prelude.{◌⊎◌, is_some}
 use Rattle.std.specs.Option.{option_map}
 use Rattle.counts.specs.Counts.{Rose}
 use Rattle.raf_tree.specs.Hashing.{Hashing}
 use Rattle.raf_tree.specs.Tree.{leaves}
-use Rattle.raf_tree.specs.Kept.{Kept as Tree, Keeps}
+use Rattle.raf_tree.specs.Kept.{Kept as Tree}
 use Rattle.raf_tree.specs.Steps.{Built}
 use Rattle.raf_tree.specs.Laws.{TreeLaws}
 use Rattle.raf_format.specs.Cipher.{Cipher, IsLawful}
 use Rattle.raf_format.specs.Version.{IsVersion, version_number}
-use Rattle.raf_format.specs.Header.{Says, Tagged, InRange, sealed_header}
+use Rattle.raf_format.specs.Header.{InRange, sealed_header}
 use Rattle.raf_format.specs.File.{File, IsFile, Opens, Shape, shape_of, layout_len, chunk_count, file_of, chunks_from}
 use Rattle.raf_format.specs.declared.header.Header.{Header}
 use Rattle.raf_format.proofs.SealedHeaders.{length_header, sealed_says, sealed_tagged}
 use Rattle.raf_io.specs.Storage.{IsLengthOf}
 use Rattle.raf_io.specs.Source.{Takes, TakesAtMost, IsShort}
-use Rattle.raf_io.specs.Kinds.{kind_of}
-use Rattle.raf_io.specs.declared.errors.Error.{Error}
 use Rattle.raf_io.specs.declared.errors.ErrorKind.{ErrorKind}
 use Rattle.raf_io.specs.declared.errors.ErrorKind.TheVariants.{Io, AlreadyExists, Rng, Hash}
 use Rattle.raf.specs.Outside.{Outside, Kept, Quiet, Caused, Moved}
-use Rattle.raf.specs.Handle.{Handle, Holds, WithTree, Grown, Paired, HasRoom, handle_of, limit_of}
+use Rattle.raf.specs.Handle.{handle_of}
 use Rattle.raf.specs.Carry.{SameTree, OfTrees}
-use Rattle.raf.specs.Opening.{Settings, FreshOf, TreeMade, Room, IsChunkSize, CanMake, IsFree, WhyNotMade, NotMade, Made, RefusalFault, PutNew}
+use Rattle.raf.specs.Opening.{Settings, FreshOf, TreeMade, CanMake, IsFree, WhyNotMade, NotMade, Made, RefusalFault}
 use Rattle.raf.specs.declared.creating.Fresh.{Fresh}
 use Rattle.raf.proofs.Moves.{moved_less, moved_then, quiet_then, caused_later, takes_none}
 use Rattle.raf.proofs.Places.{count_none}
-use Rattle.raf.proofs.Grown.{shaped_as}
-use Rattle.raf.proofs.Openings.{shapes_limit, shaped_from, with_hasher}
+use Rattle.raf.proofs.Openings.{shapes_limit, shaped_from}
 
 pub takes_nothing : (old new : Option (List ℕ)) (n : ℕ) → new ≡ old → TakesAtMost old n new
 takes_nothing old new n same = ([], omega arith, subst (λ (o : Option (List ℕ)). Takes old [] o) (sym same) (takes_none old))

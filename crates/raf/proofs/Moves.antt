@@ -1,5 +1,5 @@
 -- How storage, random source and hasher move over several calls.
-use Rattle.std.proofs.Common.{◌≡◌, Bool, true, false, ℕ, ◌+◌, ◌-◌, ◌≤◌, max, List, [], ◌++◌, Option, Some, None, refl, sym, ◌∙◌, subst, ap, arith, append_assoc}
+use Rattle.std.proofs.Common.{◌≡◌, ℕ, ◌+◌, ◌-◌, ◌≤◌, max, List, [], ◌++◌, Option, Some, None, refl, sym, ◌∙◌, subst, ap, arith, append_assoc}
 use Rattle.counts.specs.Counts.{Rose}
 use Rattle.raf_io.specs.Source.{Takes}
 use Rattle.raf.specs.Outside.{Outside, Kept, Quiet, Caused, Moved}

@@ -1,28 +1,26 @@
 -- A run by numbers goes on by a command, over any storage.
-use Rattle.std.proofs.Common.{◌≡◌, inl, inr, Bool, true, false, cond, ◌||◌, ℕ, ◌+◌, ◌≤◌, max, List, [], ◌∷◌, ◌++◌, length, Option, refl, sym, ◌∙◌, ap, subst, arith}
-use Rattle.std.specs.Prelude.{◌⊎◌, if◌then◌else◌}
+use Rattle.std.proofs.Common.{◌≡◌, inl, inr, Bool, true, false, cond, ◌||◌, ℕ, ◌+◌, ◌≤◌, List, [], ◌∷◌, ◌++◌, Option, refl, sym, ◌∙◌, ap, subst, arith}
+use Rattle.std.specs.Prelude.{◌⊎◌}
 use Rattle.std.proofs.lemmas.Bool.{false≢true}
 use Rattle.raf_tree.specs.Hashing.{Hashing}
 use Rattle.raf_format.specs.Cipher.{Cipher}
 use Rattle.raf_format.specs.File.{File}
 use Rattle.raf_format.specs.declared.header.Header.{Header}
-use Rattle.raf.specs.Due.{Answers, is_fault}
-use Rattle.raf.specs.Due.Due.{Exactly}
-use Rattle.raf.specs.Concern.{size_after, none_missing}
-use Rattle.raf.specs.Apply.{apply}
+use Rattle.raf.specs.Due.{is_fault}
+use Rattle.raf.specs.Concern.{size_after}
 use Rattle.raf.specs.Image.{asked_by}
 use Rattle.raf.specs.Meaning.{Faultable}
-use Rattle.raf.specs.Outside.{Outside, Quiet, Moved}
+use Rattle.raf.specs.Outside.{Quiet, Moved}
 use Rattle.raf.specs.Handle.{Handle, limit_of, outline}
 use Rattle.raf.specs.Stepped.{Stepped, Went, Shaped, Bounded, refuses, with_size, broken_reply}
-use Rattle.raf.specs.Session.{AllShaped, CutShort, numbers_after, numbers_in, asked_along, stops}
+use Rattle.raf.specs.Session.{AllShaped, numbers_after, numbers_in, asked_along, stops}
 use Rattle.raf.specs.Ran.{NumbersSoFar, EndedByNumbers, stopped_by}
 use Rattle.raf.specs.declared.command.Command.{Command}
 use Rattle.raf.specs.declared.command.Command.TheVariants as command
 use Rattle.raf.specs.declared.command.Reply.{Reply}
 use Rattle.raf.specs.declared.command.Reply.TheVariants.{Refused}
-use Rattle.raf_io.specs.declared.errors.ErrorKind.TheVariants.{AuthenticationFailed, Broken}
-use Rattle.raf.proofs.Moves.{moved_all, moved_then, moved_less, moved_same, quiet_then, quiet_same, caused_later}
+use Rattle.raf_io.specs.declared.errors.ErrorKind.TheVariants.{Broken}
+use Rattle.raf.proofs.Moves.{moved_all, moved_then, moved_less, moved_same, caused_later}
 use Rattle.raf.proofs.Sizes.{stepped_shape}
 
 or_right : (x : Bool) → x || true ≡ true

@@ -1,10 +1,9 @@
 -- An open file is what its storage opens to; and it holds again what a storage opens to whose first bytes and length are as before.
-use Rattle.std.proofs.Common.{◌≡◌, inl, inr, ℕ, zero, suc, ◌+◌, ◌-◌, ◌≤◌, List, [], ◌∷◌, ◌++◌, length, take, drop, Option, Some, None, refl, sym, ◌∙◌, ap, subst, arith, length-append, length-take}
-use Rattle.std.proofs.lemmas.List.{take-take, drop-take, drop_at}
-use Rattle.raf_format.specs.Cipher.{Cipher, IsLawful, IsTagLen}
-use Rattle.raf_format.specs.Header.{Says, Tagged, between, header_tag}
-use Rattle.raf_format.specs.File.{File, IsFile, Opens, StandsFor, StandFrom, IsSealedFor, shape_of, tag_len, beside, record_at, chunk_count, chunks_from, file_of, unsealed}
-use Rattle.raf_format.specs.Version.{tag_len_of}
+use Rattle.std.proofs.Common.{◌≡◌, ℕ, List, length, take, drop, Some, refl, sym, ◌∙◌, ap, subst, arith}
+use Rattle.std.proofs.lemmas.List.{take-take, drop-take}
+use Rattle.raf_format.specs.Cipher.{Cipher, IsLawful}
+use Rattle.raf_format.specs.Header.{between, header_tag}
+use Rattle.raf_format.specs.File.{File, IsFile, Opens, file_of}
 use Rattle.raf.specs.Handle.{Handle, Holds}
 use Rattle.raf_format.specs.declared.header.Header.{Header}
 use Rattle.raf_format.proofs.Opened.{opens_of}

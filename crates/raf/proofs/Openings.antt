@@ -1,13 +1,12 @@
 -- A file that was opened, with and without a tree, and why one wasn't once its header was found.
-use Rattle.std.proofs.Common.{◌≡◌, inl, inr, Bool, true, false, ℕ, zero, suc, ◌+◌, ◌-◌, ◌*◌, ◌≤◌, ◌<◌, min, max, List, [], ◌∷◌, length, map, Option, Some, None, Result, Ok, Err, refl, sym, ◌∙◌, ap, subst, arith}
-use Rattle.std.specs.Prelude.{◌⊎◌, is_some, unwrap_or, slice_get}
+use Rattle.std.proofs.Common.{◌≡◌, inl, inr, Bool, true, false, ℕ, zero, suc, ◌+◌, ◌*◌, ◌≤◌, ◌<◌, List, [], ◌∷◌, length, map, Option, Some, None, Result, Ok, Err, refl, sym, ◌∙◌, ap, subst, arith}
+use Rattle.std.specs.Prelude.{is_some, unwrap_or, slice_get}
 use Rattle.std.specs.Option.{option_map}
 use Rattle.raf_tree.specs.Hashing.{Hashing}
 use Rattle.raf_tree.specs.Tree.{height}
 use Rattle.raf_tree.specs.Kept.{Kept as Tree, tree_height}
 use Rattle.raf_format.specs.Cipher.{Cipher, IsLawful}
-use Rattle.raf_format.specs.Header.{Says, Tagged}
-use Rattle.raf_format.specs.File.{File, IsFile, Opens, shape_of, layout_len, chunk_count, chunk_at, chunks_from, file_of}
+use Rattle.raf_format.specs.File.{shape_of, layout_len, chunk_count, chunk_at, chunks_from, file_of}
 use Rattle.raf_format.specs.declared.header.Header.{Header}
 use Rattle.raf_format.proofs.Opened.{opens_of}
 use Rattle.raf_format.proofs.Headers.{says_one}
@@ -15,14 +14,14 @@ use Rattle.raf_io.specs.Kinds.{kind_of}
 use Rattle.raf_io.specs.declared.errors.Error.{Error}
 use Rattle.raf_io.specs.declared.errors.ErrorKind.{ErrorKind}
 use Rattle.raf_io.specs.declared.errors.ErrorKind.TheVariants.{Io, InvalidArgument, AuthenticationFailed, AlreadyExists, NotFound, Overflow, MerkleNotEnabled, CorruptedChunk, Rng, Hash, Broken, OutOfMemory}
-use Rattle.raf.specs.Outside.{Outside, Kept, Quiet, Moved}
+use Rattle.raf.specs.Outside.{Outside}
 use Rattle.raf.specs.Concern.{none_missing}
-use Rattle.raf.specs.Handle.{Handle, Holds, WithTree, Grown, Paired, handle_of, limit_of}
+use Rattle.raf.specs.Handle.{Holds, Paired, handle_of}
 use Rattle.raf.specs.Carry.{SameTree}
 use Rattle.raf.specs.Read.{chunks_of}
 use Rattle.raf.specs.Session.{present}
 use Rattle.raf.specs.Growing.{Grew, Ungrown}
-use Rattle.raf.specs.Opening.{LaidOut, WhyNotRead, WhyNotOpened, NumbersRefuse, RefusalFault, Room, Looked, Within, OpenedBare, Opened, NotOpened, TreeMade, opening_traffic, opening_calls}
+use Rattle.raf.specs.Opening.{LaidOut, WhyNotOpened, NumbersRefuse, RefusalFault, Looked, OpenedBare, Opened, NotOpened, opening_traffic, opening_calls}
 use Rattle.raf.proofs.Moves.{moved_less, moved_then, moved_later, quiet_then, kept_then, caused_later}
 use Rattle.raf.proofs.Headed.{looked_bare}
 use Rattle.raf.proofs.Chunks.{get_chunk}

@@ -1,8 +1,8 @@
 -- Where the records of a file stand.
-use Rattle.std.proofs.Common.{◌≡◌, inl, inr, ℕ, ◌+◌, ◌-◌, ◌*◌, ◌/◌, ◌<◌, ◌≤◌, min, refl, sym, ◌∙◌, ap, arith}
+use Rattle.std.proofs.Common.{◌≡◌, ℕ, ◌+◌, ◌-◌, ◌*◌, ◌/◌, ◌<◌, ◌≤◌, ◌∙◌, ap, arith}
 use Rattle.std.proofs.Math.Nat.{add-div_right, mul-le-mul_left, div-mul-le_self, lt-div-mul-add}
 use Rattle.std.proofs.lemmas.Nat.{le-div, div_below}
-use Rattle.raf_format.specs.File.{Shape, tag_len, chunk_count, chunk_len, layout_len, record_start, record_len}
+use Rattle.raf_format.specs.File.{Shape, tag_len, chunk_count, layout_len, record_start, record_len}
 
 -- an index below the count is one of a chunk that begins below the size
 pub starts_below : (cs size index : ℕ) → 1 ≤ cs → index < chunk_count cs size → index * cs < size

@@ -1,5 +1,5 @@
 -- A change that is made ready: what is kept of its old chunks stands in the buffers.
-use Rattle.std.proofs.Common.{◌≡◌, inl, inr, ℕ, ◌+◌, ◌-◌, ◌*◌, ◌<◌, ◌≤◌, min, max, Bool, true, false, cond, List, [], length, take, drop, Option, Some, None, Result, Ok, Err, refl, sym, ◌∙◌, ap, subst, arith}
+use Rattle.std.proofs.Common.{◌≡◌, inl, inr, ℕ, ◌+◌, ◌-◌, ◌*◌, ◌<◌, ◌≤◌, min, Bool, true, false, cond, List, length, take, drop, Option, Some, None, Result, Ok, Err, refl, sym, ◌∙◌, ap, subst, arith}
 use Rattle.std.specs.Prelude.{if◌then◌else◌, nat_lt, nat_le, ◌&&◌, not}
 use Rattle.std.specs.Result.{OnOk, OnErr, IfErr}
 use Rattle.std.proofs.lemmas.List.{take-take}
@@ -8,10 +8,10 @@ use Rattle.std.proofs.lemmas.Bool.Decides.{nat_tests}
 use Rattle.raf_io.specs.Source.{Takes, TakesAtMost, IsShort}
 use Rattle.raf_io.specs.Kinds.{kind_of}
 use Rattle.raf_format.specs.Cipher.{Cipher}
-use Rattle.raf_format.specs.File.{Shape, shape_of, tag_len, chunk_at, chunk_len, chunk_count, layout_len, record_start, record_len}
+use Rattle.raf_format.specs.File.{Shape, shape_of, tag_len, chunk_at, chunk_len, chunk_count, layout_len, record_len}
 use Rattle.raf_format.proofs.Versions.{is_tag_len, tag_least}
 use Rattle.raf.specs.Loaded.{Loads, Unopened}
-use Rattle.raf.specs.Outside.{Outside, Kept, Quiet, Caused, Moved}
+use Rattle.raf.specs.Outside.{Outside, Quiet, Caused}
 use Rattle.raf.specs.Plan.{Planned, kept_len}
 use Rattle.raf.specs.Put.{KeptOf, Misses, needed_record, needed_records}
 use Rattle.raf.specs.Carry.{Readies, Draws, Prepares, Unprepared, buffer_of, kept_in}
@@ -22,7 +22,7 @@ use Rattle.raf_io.specs.declared.errors.ErrorKind.{ErrorKind}
 use Rattle.raf_io.specs.declared.errors.ErrorKind.TheVariants.{Io, InvalidArgument, AuthenticationFailed, AlreadyExists, NotFound, Overflow, MerkleNotEnabled, CorruptedChunk, Rng, Hash, Broken, OutOfMemory}
 use Rattle.raf.proofs.Moves.{moved_then, moved_less, moved_any, moved_same, quiet_then, kept_then, caused_later, unopened_later}
 use Rattle.raf.proofs.Spans.{record_inside, count_above}
-use Rattle.raf.proofs.Tears.{takes_nothing, short_then}
+use Rattle.raf.proofs.Tears.{takes_nothing}
 use Rattle.raf.proofs.PutRecords.{on_ok, on_ok_any, if_err, buffer_front, buffer_back}
 
 pub on_err : {T E : Type 0} (r : Result T E) (P Q : Type 0) → (P → Q) → OnErr r P → OnErr r Q

@@ -1,23 +1,22 @@
 -- A run on an open file goes on by a command that had no fault.
-use Rattle.std.proofs.Common.{◌≡◌, inl, inr, Bool, true, false, ℕ, ◌+◌, ◌≤◌, max, List, [], ◌∷◌, ◌++◌, length, take, drop, Option, Some, None, refl, sym, ◌∙◌, ap, subst, arith, append_assoc, length-append}
+use Rattle.std.proofs.Common.{◌≡◌, inl, Bool, true, false, ℕ, max, List, [], ◌∷◌, ◌++◌, length, Option, Some, None, refl, sym, ◌∙◌, ap, subst, arith, length-append}
 use Rattle.std.proofs.lemmas.Bool.{false≢true}
 use Rattle.raf_io.specs.Storage.{Told, SyncedTo}
-use Rattle.raf_io.specs.Source.{Takes}
 use Rattle.raf_tree.specs.Hashing.{Hashing}
 use Rattle.raf_tree.specs.Kept.{Kept as Tree}
 use Rattle.raf_format.specs.Cipher.{Cipher}
 use Rattle.raf_format.specs.File.{File, file_layout}
 use Rattle.raf.specs.Due.{Due, Answers}
 use Rattle.raf.specs.Due.Due.{Exactly, Merkle}
-use Rattle.raf.specs.Apply.{apply, file_after, longest}
-use Rattle.raf.specs.Image.{traced, bytes_after, asked_by, asked_in, changes_by, changes_in, traffic_by, traffic_in, calls_by, calls_in}
+use Rattle.raf.specs.Apply.{apply, file_after}
+use Rattle.raf.specs.Image.{traced, bytes_after, asked_by, changes_by, traffic_by, calls_by}
 use Rattle.raf.specs.Meaning.{Authentic}
-use Rattle.raf.specs.Outside.{Outside, Quiet, Moved}
+use Rattle.raf.specs.Outside.{Moved}
 use Rattle.std.specs.Option.{option_map}
 use Rattle.raf.specs.Handle.{Handle, Holds, WithTree, OfTree, Grown, KeptAnswer, limit_of}
 use Rattle.raf.specs.Stepped.{may_settle, Stepped, Went, Answered, Bounded}
-use Rattle.raf.specs.Session.{Ground, AllAnswer, AllAuthentic, TreeDecides, tree_reply, settles, settled_after, IsDurable, Faulted}
-use Rattle.raf.specs.Ran.{ground, SoFar, Progress}
+use Rattle.raf.specs.Session.{TreeDecides, settles, settled_after, IsDurable}
+use Rattle.raf.specs.Ran.{ground, SoFar}
 use Rattle.raf.specs.Due.{is_fault}
 use Rattle.raf.specs.declared.command.Command.{Command}
 use Rattle.raf.specs.declared.command.Command.TheVariants as command
@@ -26,7 +25,7 @@ use Rattle.raf.specs.declared.command.Reply.TheVariants.{Done}
 use Rattle.raf.proofs.Decided.{decided}
 use Rattle.raf.proofs.Syncs.{apply_sync}
 use Rattle.raf.proofs.StillSteps.{may_change, still_bytes}
-use Rattle.raf.proofs.Moves.{moved_less, moved_then, quiet_then, takes_then}
+use Rattle.raf.proofs.Moves.{moved_less, moved_then, takes_then}
 use Rattle.raf.proofs.Runs.{after-push, asked-push, changes-push, calls-push, traffic-push, longest-push, longest_last, traced-push, answer-push, authentic-push, settled-push}
 
 told_synced : (told od nd : Option (List ℕ)) (b d : List ℕ) → Told (SyncedTo told) od nd → told ≡ Some b → nd ≡ Some d → d ≡ b

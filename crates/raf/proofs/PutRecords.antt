@@ -1,9 +1,9 @@
 -- One touched chunk is put: its place in a buffer, and what its calls leave.
-use Rattle.std.proofs.Common.{◌≡◌, inl, inr, ℕ, ◌+◌, ◌-◌, ◌*◌, ◌<◌, ◌≤◌, min, max, Bool, true, false, cond, List, [], ◌++◌, length, take, drop, Option, Some, None, Result, Ok, Err, refl, sym, ◌∙◌, ap, subst, arith, length-take, length-drop}
+use Rattle.std.proofs.Common.{◌≡◌, inl, inr, ℕ, ◌+◌, ◌-◌, ◌*◌, ◌<◌, ◌≤◌, min, Bool, true, false, cond, List, length, take, drop, Option, Some, None, Result, Ok, Err, sym, ◌∙◌, ap, subst, arith, length-take}
 use Rattle.std.specs.Prelude.{nat_lt, nat_le, ◌&&◌, not}
 use Rattle.std.specs.Option.{option_map}
 use Rattle.std.specs.Result.{OnOk, OnErr, IfErr}
-use Rattle.std.proofs.lemmas.List.{take_all, take-take, drop-take}
+use Rattle.std.proofs.lemmas.List.{take-take, drop-take}
 use Rattle.std.proofs.lemmas.Bool.{cases_lt}
 use Rattle.std.proofs.lemmas.Bool.Decides.{nat_tests}
 use Rattle.counts.specs.Counts.{Rose}
@@ -12,8 +12,8 @@ use Rattle.raf_io.specs.Kinds.{kind_of}
 use Rattle.raf_tree.specs.Hashing.{Hashing}
 use Rattle.raf_tree.specs.Kept.{Kept}
 use Rattle.raf_format.specs.Cipher.{Cipher}
-use Rattle.raf_format.specs.File.{Shape, shape_of, tag_len, chunk_len, chunk_count, layout_len, record_start, record_len}
-use Rattle.raf.specs.Outside.{Outside, Kept as Kept_, Quiet, Caused, Moved, MayHaveBegun}
+use Rattle.raf_format.specs.File.{Shape, shape_of, chunk_len, layout_len, record_start, record_len}
+use Rattle.raf.specs.Outside.{Outside, Kept as Kept_, Quiet, Caused, Moved}
 use Rattle.raf.specs.Plan.{Planned, kept_len}
 use Rattle.raf.specs.Put.{put_chunk, record_for}
 use Rattle.raf.specs.Carry.{SameTree, OfTrees, Leafed, HasTree, Hindered, Puts, TornTo, buffer_of, kept_in}

@@ -1,19 +1,17 @@
 -- A read goes on by a chunk.
-use Rattle.std.proofs.Common.{◌≡◌, inl, inr, true, ℕ, zero, suc, ◌+◌, ◌-◌, ◌*◌, ◌<◌, ◌≤◌, min, max, List, [], ◌∷◌, ◌++◌, length, take, drop, Option, Some, None, Result, Ok, Err, refl, sym, ◌∙◌, ap, subst, arith, add_assoc}
-use Rattle.std.specs.Prelude.{slice_get, unwrap_or}
-use Rattle.std.specs.Result.{IsErrAnd, OnErr}
+use Rattle.std.proofs.Common.{◌≡◌, true, ℕ, zero, suc, ◌+◌, ◌-◌, ◌*◌, ◌<◌, ◌≤◌, max, List, [], ◌∷◌, ◌++◌, length, take, drop, Option, Some, Ok, Err, refl, sym, ◌∙◌, ap, subst, arith, add_assoc}
+use Rattle.std.specs.Prelude.{unwrap_or}
 use Rattle.raf_format.specs.Cipher.{Cipher, IsLawful}
 use Rattle.raf_format.specs.File.{shape_of, layout_len, chunk_count, chunk_len, record_start, record_len, chunk_at}
 use Rattle.raf.specs.Concern.{sum_where}
 use Rattle.raf.specs.Apply.{bytes_between}
-use Rattle.raf.specs.Outside.{Outside, Quiet, Moved}
-use Rattle.raf.specs.Loaded.{Sound, Loads, Unopened}
+use Rattle.raf.specs.Outside.{Outside, Moved}
+use Rattle.raf.specs.Loaded.{Sound, Loads}
 use Rattle.raf.specs.Read.{Filled, ReadSoFar, Unread, with_chunk, chunks_of, reached}
 use Rattle.raf_io.specs.Kinds.{kind_of}
 use Rattle.raf_format.specs.declared.header.Header.{Header}
 use Rattle.raf_io.specs.declared.errors.Error.{Error}
-use Rattle.raf_io.specs.declared.errors.ErrorKind.TheVariants.{AuthenticationFailed}
-use Rattle.raf.proofs.Between.{filled_more, between_none}
+use Rattle.raf.proofs.Between.{filled_more}
 use Rattle.raf.proofs.Chunks.{get_chunk, chunk_length, chunks_short}
 use Rattle.raf.proofs.Places.{within_layout}
 use Rattle.raf.proofs.Moves.{moved_same, moved_less, moved_then, quiet_same, quiet_then, kept_same, kept_then, unopened_later}

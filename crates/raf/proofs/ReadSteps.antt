@@ -1,6 +1,6 @@
 -- A read as a command on an open file.
-use Rattle.std.proofs.Common.{◌≡◌, inl, inr, Bool, true, false, cond, ℕ, zero, suc, ◌+◌, ◌-◌, ◌*◌, ◌/◌, ◌<◌, ◌≤◌, min, max, List, [], ◌∷◌, ◌++◌, length, take, drop, get_or, Option, Some, None, refl, sym, ◌∙◌, ap, subst, arith, length-take, take-append-drop}
-use Rattle.std.specs.Prelude.{slice_get, unwrap_or, ◌⊎◌}
+use Rattle.std.proofs.Common.{◌≡◌, inl, inr, Bool, true, false, cond, ℕ, ◌+◌, ◌-◌, ◌*◌, ◌/◌, ◌<◌, ◌≤◌, min, max, List, [], ◌∷◌, ◌++◌, length, take, drop, Option, Some, refl, sym, ◌∙◌, ap, subst, arith}
+use Rattle.std.specs.Prelude.{unwrap_or}
 use Rattle.std.proofs.lemmas.Bool.{false≢true}
 use Rattle.std.proofs.lemmas.List.{take_all}
 use Rattle.std.proofs.lemmas.Option.{slice_get_within}
@@ -9,21 +9,19 @@ use Rattle.std.proofs.lemmas.Nat.{le-div}
 use Rattle.raf_tree.specs.Hashing.{Hashing}
 use Rattle.raf_tree.specs.Kept.{Kept as Tree}
 use Rattle.raf_format.specs.Cipher.{Cipher, IsLawful}
-use Rattle.raf_format.specs.File.{File, IsFile, IsSealedFor, shape_of, tag_len, layout_len, chunk_count, record_len, record_at, chunk_at, file_of, beside}
+use Rattle.raf_format.specs.File.{File, IsFile, shape_of, layout_len, chunk_count, record_len, record_at, chunk_at}
 use Rattle.raf_format.specs.Version.{tag_len_of}
 use Rattle.raf.specs.Due.{Due, Answers, is_barred}
 use Rattle.raf.specs.Due.Due.{Exactly}
 use Rattle.raf.specs.Concern.{needed, none_missing, sum_where, meets}
 use Rattle.raf.specs.Apply.{apply, bytes_between}
-use Rattle.raf.specs.Image.{traffic_by}
 use Rattle.raf.specs.Meaning.{Authentic, Faultable, Concerned}
-use Rattle.raf.specs.Outside.{Outside, Kept, Quiet, Caused, Moved}
-use Rattle.raf.specs.Handle.{Handle, handle_of, Holds, Measures, OfTree, KeptAnswer, limit_of, outline}
+use Rattle.raf.specs.Outside.{Outside, Moved}
+use Rattle.raf.specs.Handle.{Handle, handle_of, Measures, OfTree, KeptAnswer, limit_of}
 use Rattle.raf.specs.Loaded.{Sound, Unopened}
-use Rattle.raf.specs.Read.{ReadSoFar, Unread, Filled, IsByteOf, chunks_of, reached}
-use Rattle.raf.specs.Stepped.{Went, Bounded, Failed, Needs}
+use Rattle.raf.specs.Read.{ReadSoFar, Unread, Filled, chunks_of, reached}
+use Rattle.raf.specs.Stepped.{Went, Bounded, Needs}
 use Rattle.raf_io.specs.Kinds.{kind_of}
-use Rattle.raf.specs.Due.{is_fault}
 use Rattle.raf_format.specs.declared.header.Header.{Header}
 use Rattle.raf.specs.declared.command.Command.TheVariants.{Read, Rebuild, Sync}
 use Rattle.raf.specs.declared.command.Reply.{Reply}
@@ -31,7 +29,6 @@ use Rattle.raf.specs.declared.command.Reply.TheVariants.{Bytes, Refused}
 use Rattle.raf_io.specs.declared.errors.Error.{Error}
 use Rattle.raf_io.specs.declared.errors.ErrorKind.{ErrorKind}
 use Rattle.raf_io.specs.declared.errors.ErrorKind.TheVariants.{Io, InvalidArgument, AuthenticationFailed, AlreadyExists, NotFound, Overflow, MerkleNotEnabled, CorruptedChunk, Rng, Hash, Broken, OutOfMemory}
-use Rattle.raf.proofs.Between.{between_none}
 use Rattle.raf.proofs.Chunks.{get_chunk, length-chunks}
 use Rattle.raf.proofs.Places.{meets_range, counts_below}
 use Rattle.raf.proofs.Needed.{apply_read, met, meets_true, met_among, all_there, one_missing, sum_within}

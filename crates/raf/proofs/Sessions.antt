@@ -1,8 +1,6 @@
 -- A session, from an opening and the run of its commands.
-use Rattle.std.proofs.Common.{◌≡◌, inl, inr, Bool, true, false, ℕ, ◌+◌, ◌-◌, ◌≤◌, ◌<◌, ◌^◌, max, min, List, [], ◌∷◌, ◌++◌, length, take, Option, Some, None, Result, Ok, Err, refl, sym, ◌∙◌, ap, subst, arith}
+use Rattle.std.proofs.Common.{◌≡◌, inl, inr, false, ℕ, ◌+◌, ◌≤◌, ◌<◌, ◌^◌, List, [], ◌∷◌, length, Option, Some, None, Result, Ok, Err, refl, sym, ◌∙◌, ap, subst, arith}
 use Rattle.std.specs.Prelude.{◌⊎◌}
-use Rattle.std.specs.Result.{IfOk, IfErr}
-use Rattle.raf_io.specs.Kinds.{kind_of}
 use Rattle.raf_io.specs.Source.{Takes}
 use Rattle.raf_io.specs.declared.errors.Error.{Error}
 use Rattle.raf_io.specs.declared.errors.ErrorKind.{ErrorKind}
@@ -10,14 +8,12 @@ use Rattle.raf_io.specs.declared.errors.ErrorKind.TheVariants.{OutOfMemory}
 use Rattle.raf_tree.specs.Hashing.{Hashing}
 use Rattle.raf_format.specs.Cipher.{Cipher}
 use Rattle.raf_format.specs.File.{File, Opens, file_layout, layout_len, chunk_count, shape_of}
-use Rattle.raf_format.specs.declared.header.Header.{Header}
 use Rattle.raf.specs.Apply.{longest}
-use Rattle.raf.specs.Image.{traffic_in, asked_in, changes_in, calls_in}
-use Rattle.raf.specs.Outside.{Outside, Quiet, Caused, Moved}
-use Rattle.raf.specs.Handle.{Handle, Holds, limit_of, hash_len_of, outline}
-use Rattle.raf.specs.Opening.{Settings, Looked, LaidOut, NotOpened, Opened, opening_traffic, opening_calls}
-use Rattle.raf.specs.Session.{Ground, Whole, Faulted, Answered, ByNumbers, CutShort, AllShaped, Refusal, Meets, Ran, begun, room_total, asked_along}
-use Rattle.raf.specs.Ran.{Ended, EndedByNumbers, Serves, ground}
+use Rattle.raf.specs.Outside.{Outside, Quiet}
+use Rattle.raf.specs.Handle.{Handle, limit_of, hash_len_of, outline}
+use Rattle.raf.specs.Opening.{Settings, NotOpened, Opened, opening_traffic, opening_calls}
+use Rattle.raf.specs.Session.{Ground, Whole, Faulted, Answered, ByNumbers, CutShort, AllShaped, Meets, Ran, begun, room_total, asked_along}
+use Rattle.raf.specs.Ran.{Ended, Serves, ground}
 use Rattle.raf.specs.declared.command.Command.{Command}
 use Rattle.raf.specs.declared.command.Reply.{Reply}
 use Rattle.raf.proofs.Moves.{moved_then, moved_all, quiet_then, caused_later}

@@ -1,5 +1,5 @@
 -- The size, as a command.
-use Rattle.std.proofs.Common.{◌≡◌, inl, inr, Bool, true, false, cond, ℕ, List, [], ◌∷◌, Option, refl, sym, ◌∙◌, ap, subst}
+use Rattle.std.proofs.Common.{◌≡◌, inr, Bool, true, cond, ℕ, List, Option, refl, sym, ap, subst}
 use Rattle.std.specs.Prelude.{not, ◌&&◌}
 use Rattle.std.proofs.lemmas.Bool.{false≢true}
 use Rattle.raf_tree.specs.Hashing.{Hashing}
@@ -8,8 +8,7 @@ use Rattle.raf_format.specs.File.{File}
 use Rattle.raf.specs.Due.{Due, Answers}
 use Rattle.raf.specs.Due.Due.{Exactly}
 use Rattle.raf.specs.Apply.{apply}
-use Rattle.raf.specs.Meaning.{Authentic}
-use Rattle.raf.specs.Handle.{Handle, Holds, OfTree, KeptAnswer, limit_of, outline}
+use Rattle.raf.specs.Handle.{Handle, OfTree, KeptAnswer, limit_of, outline}
 use Rattle.raf.specs.Stepped.{Stepped, Shaped, HasForm}
 use Rattle.raf.specs.declared.command.Command.TheVariants.{Size, Rebuild, Sync}
 use Rattle.raf.specs.declared.command.Reply.TheVariants as reply

@@ -1,26 +1,26 @@
 -- Commands that leave the file as it is.
-use Rattle.std.proofs.Common.{◌≡◌, inl, inr, Bool, true, false, cond, ℕ, zero, suc, ◌+◌, ◌*◌, ◌<◌, ◌≤◌, max, List, [], ◌∷◌, ◌++◌, length, Option, Some, None, refl, sym, ◌∙◌, ap, subst, arith}
+use Rattle.std.proofs.Common.{◌≡◌, inl, inr, Bool, true, false, cond, ℕ, zero, suc, ◌+◌, List, [], Option, Some, refl, sym, ◌∙◌, ap, subst, arith}
 use Rattle.std.specs.Prelude.{◌⊎◌, if◌then◌else◌}
 use Rattle.raf_io.specs.Storage.{Told, SyncedTo}
-use Rattle.raf_io.specs.Source.{Takes, TakesAtMost}
+use Rattle.raf_io.specs.Source.{Takes}
 use Rattle.raf_tree.specs.Hashing.{Hashing}
 use Rattle.raf_format.specs.Cipher.{Cipher}
 use Rattle.raf_format.specs.File.{File, IsFile, chunk_count, file_of}
 use Rattle.raf.specs.Due.{Due, Answers, is_refused}
-use Rattle.raf.specs.Due.Due.{Exactly, Merkle}
+use Rattle.raf.specs.Due.Due.{Exactly}
 use Rattle.raf.specs.Concern.{touched, sum_where, size_after, valid}
 use Rattle.raf.specs.Apply.{apply, answer, changed, cause_of}
-use Rattle.raf.specs.Image.{bytes_after, asked_by, changes_by, image}
+use Rattle.raf.specs.Image.{bytes_after, asked_by, image}
 use Rattle.raf.specs.Change.{change_of}
 use Rattle.std.specs.Prelude.{is_some}
-use Rattle.raf.specs.Meaning.{Authentic, Faultable, Spares}
+use Rattle.raf.specs.Meaning.{Authentic}
 use Rattle.std.specs.Option.{option_map}
 use Rattle.std.proofs.lemmas.Bool.{false≢true}
 use Rattle.raf_tree.specs.Kept.{Kept as Tree}
-use Rattle.raf.specs.Outside.{Outside, Quiet, Caused, Moved}
+use Rattle.raf.specs.Outside.{Quiet}
 use Rattle.raf.proofs.Moves.{takes_none}
 use Rattle.raf.specs.Handle.{Handle, Holds, Measures, WithTree, OfTree, Grown, KeptAnswer, limit_of, outline}
-use Rattle.raf.specs.Stepped.{Answered, Cut, Failed, Bounded, Shaped, Marked, Stays, Went, with_size, refuses, may_mark, may_settle}
+use Rattle.raf.specs.Stepped.{Failed, Bounded, Shaped, Went, with_size, refuses, may_mark, may_settle}
 use Rattle.raf.specs.Due.{is_fault}
 use Rattle.raf_format.specs.declared.header.Header.{Header}
 use Rattle.raf.specs.declared.command.Command.{Command}

@@ -1,31 +1,30 @@
 -- Touched chunks that are put one after the other.
-use Rattle.std.proofs.Common.{◌≡◌, inl, inr, ℕ, zero, suc, ◌+◌, ◌-◌, ◌*◌, ◌<◌, ◌≤◌, min, max, Bool, true, false, cond, List, [], ◌++◌, length, take, drop, Option, Some, None, Result, Ok, Err, refl, sym, ◌∙◌, ap, subst, arith, length-append, length-take, length-drop}
-use Rattle.std.specs.Prelude.{nat_lt, ◌⊎◌}
+use Rattle.std.proofs.Common.{◌≡◌, inl, inr, ℕ, suc, ◌+◌, ◌-◌, ◌*◌, ◌<◌, ◌≤◌, max, Bool, true, cond, List, [], ◌++◌, length, take, drop, Option, Some, None, Ok, Err, refl, sym, ◌∙◌, ap, subst, arith, length-append, length-drop}
+use Rattle.std.specs.Prelude.{nat_lt}
 use Rattle.std.proofs.lemmas.List.{take_all, drop_at, drop_all, take-append-le, drop-append-le}
 use Rattle.std.proofs.lemmas.Nat.{mul-le}
 use Rattle.std.proofs.lemmas.Bool.{cases_lt}
 use Rattle.std.proofs.lemmas.Bool.Decides.{nat_tests}
-use Rattle.counts.specs.Counts.{Rose}
 use Rattle.raf_io.specs.Storage.{spliced}
-use Rattle.raf_io.specs.Source.{Takes, TakesAtMost}
+use Rattle.raf_io.specs.Source.{Takes}
 use Rattle.raf_io.specs.Kinds.{kind_of}
 use Rattle.raf_tree.specs.Hashing.{Hashing}
 use Rattle.raf_tree.specs.Kept.{Kept}
 use Rattle.raf_format.specs.Cipher.{Cipher}
-use Rattle.raf_format.specs.File.{Shape, shape_of, tag_len, chunk_len, chunk_count, layout_len, record_start, record_len}
-use Rattle.raf.specs.Outside.{Outside, Quiet, Caused, Moved, MayHaveBegun}
+use Rattle.raf_format.specs.File.{Shape, shape_of, chunk_len, layout_len, record_start, record_len}
+use Rattle.raf.specs.Outside.{Outside, Moved, MayHaveBegun}
 use Rattle.raf.specs.Plan.{Planned}
-use Rattle.raf.specs.Put.{stride, placed, nonce_at, put_chunk, record_for, new_records, LeavesUpTo}
-use Rattle.raf.specs.Carry.{SameTree, OfTrees, Leafed, Hindered, Draws, Puts, StoredUpTo, Going, Stores, TornTo, buffer_of}
+use Rattle.raf.specs.Put.{stride, placed, nonce_at, put_chunk, record_for, new_records}
+use Rattle.raf.specs.Carry.{Hindered, Draws, Puts, StoredUpTo, Going, Stores, TornTo, buffer_of}
 use Rattle.raf.specs.declared.planning.Plan.{Plan}
 use Rattle.raf_format.specs.declared.header.Header.{Header}
 use Rattle.raf_io.specs.declared.errors.Error.{Error}
 use Rattle.raf_io.specs.declared.errors.ErrorKind.{ErrorKind}
 use Rattle.raf_io.specs.declared.errors.ErrorKind.TheVariants.{Rng}
-use Rattle.raf.proofs.Moves.{moved_then, moved_less, quiet_then, caused_later, takes_none, takes_then}
+use Rattle.raf.proofs.Moves.{moved_then, moved_less, quiet_then, takes_none, takes_then}
 use Rattle.raf.proofs.Placed.{placed_same}
 use Rattle.raf.proofs.Spans.{chunk_full}
-use Rattle.raf.proofs.Tears.{torn_more, torn_wide, torn_none, takes_most, takes_nothing, short_then, hindered_later}
+use Rattle.raf.proofs.Tears.{torn_more, torn_wide, takes_nothing, hindered_later}
 use Rattle.raf.proofs.SameTrees.{same_tree_then, same_none, leaves_first, leaves_more}
 
 -- what was begun stays begun

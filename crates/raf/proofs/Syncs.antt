@@ -1,6 +1,6 @@
 -- A sync.
-use Rattle.std.proofs.Common.{◌≡◌, inl, inr, Bool, true, false, cond, ℕ, ◌+◌, ◌≤◌, max, List, [], ◌∷◌, Option, Some, None, Result, Ok, Err, refl, sym, ◌∙◌, ap, subst, arith}
-use Rattle.std.specs.Prelude.{not, ◌&&◌, ◌||◌, is_some}
+use Rattle.std.proofs.Common.{◌≡◌, inr, Bool, true, false, cond, ℕ, ◌+◌, List, [], ◌∷◌, Option, Result, Ok, Err, refl, sym, ◌∙◌, ap, subst, arith}
+use Rattle.std.specs.Prelude.{not, ◌&&◌}
 use Rattle.std.specs.Result.{OnOk, IfErr}
 use Rattle.std.proofs.lemmas.Bool.{false≢true}
 use Rattle.raf_io.specs.Storage.{Told, SyncedTo}
@@ -11,7 +11,7 @@ use Rattle.raf.specs.Due.{Due, Answers, is_barred}
 use Rattle.raf.specs.Due.Due.{Exactly}
 use Rattle.raf.specs.Concern.{none_missing}
 use Rattle.raf.specs.Apply.{apply}
-use Rattle.raf.specs.Outside.{Outside, Quiet, Caused, Moved}
+use Rattle.raf.specs.Outside.{Quiet, Caused, Moved}
 use Rattle.raf.specs.Meaning.{Authentic}
 use Rattle.raf.specs.Handle.{Handle, Holds, OfTree, KeptAnswer, limit_of}
 use Rattle.raf.specs.Stepped.{Went, done_reply}

@@ -1,12 +1,12 @@
 -- Bytes that differ in a range alone, where a storage tells them; what was taken of a random source; and results that are handed on.
-use Rattle.std.proofs.Common.{◌≡◌, ◌≢◌, ℕ, ◌+◌, ◌-◌, ◌<◌, ◌≤◌, min, Bool, true, List, [], ◌++◌, length, take, drop, Option, Some, None, Result, Ok, Err, subst, refl, sym, ◌∙◌, ap, arith, length-append}
+use Rattle.std.proofs.Common.{◌≡◌, ◌≢◌, ℕ, ◌+◌, ◌<◌, ◌≤◌, min, List, [], length, take, drop, Option, Some, None, Result, Ok, Err, subst, refl, sym, ◌∙◌, ap, arith, length-append}
 use Rattle.std.specs.Result.{OnOk, OnErr, IsErrAnd}
 use Rattle.std.specs.Option.{option_map}
 use Rattle.std.proofs.lemmas.List.{take-take, drop-take}
-use Rattle.raf_io.specs.Storage.{Torn, Cut, Told, spliced, resized}
+use Rattle.raf_io.specs.Storage.{Torn, Cut, Told, spliced}
 use Rattle.raf_io.specs.Source.{Takes, TakesAtMost, IsShort}
-use Rattle.raf_io.proofs.Splices.{torn_same, cut_same}
-use Rattle.raf.specs.Outside.{Outside, Quiet, Caused}
+use Rattle.raf_io.proofs.Splices.{torn_same}
+use Rattle.raf.specs.Outside.{Outside, Quiet}
 use Rattle.raf.specs.Carry.{TornTo, TrimmedTo, Hindered}
 use Rattle.raf_tree.specs.Kept.{Kept}
 use Rattle.raf_io.specs.declared.errors.Error.{Error}

@@ -1,7 +1,7 @@
 -- A tree that is made anew once each chunk was seen to open.
 use Rattle.std.proofs.Common.{◌≡◌, inl, inr, Bool, true, false, cond, ℕ, ◌+◌, ◌-◌, ◌*◌, ◌<◌, ◌≤◌, List, length, map, Option, Some, None, Result, Ok, Err, refl, sym, ◌∙◌, ap, subst, arith}
-use Rattle.std.specs.Prelude.{◌⊎◌, if◌then◌else◌, slice_get}
-use Rattle.std.specs.Result.{OnOk, IfErr}
+use Rattle.std.specs.Prelude.{◌⊎◌}
+use Rattle.std.specs.Result.{OnOk}
 use Rattle.std.proofs.lemmas.Bool.{false≢true}
 use Rattle.counts.specs.Counts.{Rose}
 use Rattle.raf_io.specs.Kinds.{kind_of}
@@ -15,12 +15,10 @@ use Rattle.raf_format.specs.declared.header.Header.{Header}
 use Rattle.raf_io.specs.declared.errors.Error.{Error}
 use Rattle.raf_io.specs.declared.errors.ErrorKind.{ErrorKind}
 use Rattle.raf_io.specs.declared.errors.ErrorKind.TheVariants.{Io, InvalidArgument, AuthenticationFailed, AlreadyExists, NotFound, Overflow, MerkleNotEnabled, CorruptedChunk, Rng, Hash, Broken, OutOfMemory}
-use Rattle.raf.specs.Due.{is_fault}
 use Rattle.raf.specs.Concern.{none_missing}
 use Rattle.raf.specs.Meaning.{Faultable}
-use Rattle.raf.specs.Outside.{Outside, Quiet, Caused, Moved}
-use Rattle.raf.specs.Handle.{Handle, Holds, Grown, KeptAnswer, handle_of, limit_of}
-use Rattle.raf.specs.Carry.{SameTree}
+use Rattle.raf.specs.Outside.{Outside, Caused, Moved}
+use Rattle.raf.specs.Handle.{Handle, KeptAnswer, handle_of, limit_of}
 use Rattle.raf.specs.Stepped.{Went, Failed, done_reply, refuses}
 use Rattle.raf.specs.Read.{chunks_of}
 use Rattle.raf.specs.Session.{present}
@@ -28,7 +26,6 @@ use Rattle.raf.specs.Loaded.{Unopened}
 use Rattle.raf.specs.Growing.{Grew, Ungrown}
 use Rattle.raf.specs.Verifying.{AllThere}
 use Rattle.raf.specs.declared.command.Command.TheVariants as command
-use Rattle.raf.specs.declared.command.Reply.{Reply}
 use Rattle.raf.specs.declared.command.Reply.TheVariants as reply
 use Rattle.raf.proofs.Moves.{moved_less, moved_then, quiet_then, kept_then, caused_later}
 use Rattle.raf.proofs.Chunks.{get_chunk, length-chunks}

@@ -1,18 +1,16 @@
 -- The commands that ask for a tree.
-use Rattle.std.proofs.Common.{◌≡◌, inl, inr, Bool, true, false, cond, not, ◌&&◌, ◌||◌, ℕ, zero, suc, ◌+◌, ◌-◌, ◌*◌, ◌<◌, ◌≤◌, min, max, List, [], ◌∷◌, length, map, Option, Some, None, Result, Ok, Err, refl, sym, ◌∙◌, ap, subst, arith}
-use Rattle.std.specs.Prelude.{◌⊎◌, if◌then◌else◌, nat_eq}
-use Rattle.std.specs.Option.{option_map}
+use Rattle.std.proofs.Common.{◌≡◌, inl, inr, Bool, true, false, cond, not, ◌&&◌, ℕ, zero, suc, ◌+◌, ◌-◌, ◌*◌, ◌<◌, ◌≤◌, List, [], length, Option, Some, None, Result, Ok, Err, refl, sym, ◌∙◌, ap, subst, arith}
+use Rattle.std.specs.Prelude.{◌⊎◌}
 use Rattle.std.specs.Result.{OnOk, IfErr}
 use Rattle.std.proofs.lemmas.Bool.{cases_lt, false≢true}
 use Rattle.counts.specs.Counts.{Rose}
 use Rattle.raf_io.specs.Source.{Takes}
 use Rattle.raf_io.specs.Kinds.{kind_of}
 use Rattle.raf_tree.specs.Hashing.{Hashing}
-use Rattle.raf_tree.specs.Tree.{height}
 use Rattle.raf_tree.specs.Kept.{Kept as Tree, kept, tree_height}
 use Rattle.raf_tree.specs.Steps.{SameShape}
 use Rattle.raf_format.specs.Cipher.{Cipher}
-use Rattle.raf_format.specs.File.{File, IsFile, shape_of, layout_len, file_layout, chunk_count, chunk_at, chunks_from, file_of}
+use Rattle.raf_format.specs.File.{File, shape_of, layout_len, chunk_count, chunk_at, chunks_from}
 use Rattle.raf_format.specs.declared.header.Header.{Header}
 use Rattle.raf_io.specs.declared.errors.Error.{Error}
 use Rattle.raf_io.specs.declared.errors.ErrorKind.{ErrorKind}
@@ -21,20 +19,20 @@ use Rattle.raf.specs.Due.{Due, Answers, is_barred, is_refused, is_fault}
 use Rattle.raf.specs.Due.Due.{Exactly, Merkle}
 use Rattle.raf.specs.Concern.{none_missing}
 use Rattle.raf.specs.Apply.{apply}
-use Rattle.raf.specs.Image.{traffic_by, asked_by, changes_by, calls_by}
-use Rattle.raf.specs.Meaning.{Authentic, Faultable, Concerned}
-use Rattle.raf.specs.Outside.{Outside, Kept, Quiet, Caused, Moved, Began}
+use Rattle.raf.specs.Image.{traffic_by, calls_by}
+use Rattle.raf.specs.Meaning.{Authentic, Faultable}
+use Rattle.raf.specs.Outside.{Outside, Kept, Quiet, Caused, Moved}
 use Rattle.raf.specs.Handle.{Handle, Holds, Measures, WithTree, OfTree, Grown, Paired, KeptAnswer, Matches, FirstBad, handle_of, limit_of, outline}
 use Rattle.raf.specs.Stepped.{Went, Failed, Bounded, Shaped, HasForm, with_size, refuses, verify_reply, commitment_reply}
 use Rattle.raf.specs.Read.{chunks_of}
-use Rattle.raf.specs.Verifying.{Unanswered, Verifies, AllThere}
+use Rattle.raf.specs.Verifying.{Unanswered, Verifies}
 use Rattle.raf.specs.declared.command.Command.{Command}
 use Rattle.raf.specs.declared.command.Command.TheVariants as command
 use Rattle.raf.specs.declared.command.Reply.{Reply}
 use Rattle.raf.specs.declared.command.Reply.TheVariants as reply
-use Rattle.raf.proofs.Moves.{moved_any, moved_same, moved_less, moved_then, takes_none}
+use Rattle.raf.proofs.Moves.{moved_any, moved_same, moved_less, takes_none}
 use Rattle.raf.proofs.Syncs.{none_asked}
-use Rattle.raf.proofs.StillSteps.{may_change, went_still, still_holds, still_bytes, still_asks, still_file}
+use Rattle.raf.proofs.StillSteps.{may_change, went_still, still_bytes, still_asks}
 
 -- with a limit the tree decides, and without one they are refused
 decides : (F : File) (t : Bool) → t ≡ true → cond {A = Due × File} (t && true) (Merkle, F) (Exactly (reply.Refused (cond (not t) AuthenticationFailed MerkleNotEnabled)), F) ≡ (Merkle, F)

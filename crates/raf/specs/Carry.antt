@@ -1,5 +1,5 @@
 -- How a change goes on, call by call (this project's own).
-use Rattle.std.specs.Prelude.{◌≡◌, ℕ, ◌+◌, ◌-◌, ◌*◌, ◌<◌, ◌≤◌, ◌⊎◌, max, if◌then◌else◌, nat_lt, nat_eq, Bool, true, List, length, take, drop, Option, Some, None, Result, OnOk, OnErr, IfErr, ⊤}
+use Rattle.std.specs.Prelude.{◌≡◌, ℕ, ◌+◌, ◌-◌, ◌*◌, ◌<◌, ◌≤◌, ◌⊎◌, max, if◌then◌else◌, nat_lt, nat_eq, true, List, length, take, drop, Option, Some, None, Result, OnOk, OnErr, IfErr, ⊤}
 use Rattle.counts.specs.Counts.{Rose}
 use Rattle.raf_io.specs.Storage.{Torn, spliced}
 use Rattle.raf_io.specs.Source.{Takes, TakesAtMost, IsShort}
@@ -9,11 +9,11 @@ use Rattle.raf_tree.specs.Kept.{Kept}
 use Rattle.raf_tree.specs.Steps.{SameShape, LeafPut, Updated}
 use Rattle.raf_format.specs.Cipher.{Cipher}
 use Rattle.raf_format.specs.Header.{sealed_header}
-use Rattle.raf_format.specs.File.{Shape, shape_of, record_len, record_start, chunk_len, chunk_at, layout_len}
+use Rattle.raf_format.specs.File.{shape_of, record_len, record_start, chunk_len, chunk_at, layout_len}
 use Rattle.raf.specs.Loaded.{Unopened}
 use Rattle.raf.specs.Outside.{Outside, Kept as Kept_, Quiet, Caused, Moved, MayHaveBegun}
 use Rattle.raf.specs.Plan.{kept_len}
-use Rattle.raf.specs.Put.{stride, placed, nonce_at, finished, put_chunk, record_for, KeptOf, Misses, LeavesUpTo, needed_record, needed_records, new_records, changes_of, SparedTo, Hashed}
+use Rattle.raf.specs.Put.{stride, placed, nonce_at, finished, put_chunk, record_for, KeptOf, Misses, LeavesUpTo, needed_records, new_records, changes_of, SparedTo, Hashed}
 use Rattle.raf.specs.Stepped.{with_size}
 use Rattle.raf.specs.declared.planning.Plan.{Plan}
 use Rattle.raf_format.specs.declared.header.Header.{Header}

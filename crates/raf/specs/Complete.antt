@@ -51,4 +51,4 @@ pub record Complete (C : Cipher) (E : List ℕ → Hashing) : Type 0 where
       → CanOpen C E key before.setting s.most b F → room_total (hash_len_of E s.outside.setting) commands < 2 ^ 64 → NoneFailed before after
       → IfErr outcome (λ e. kind_of e ≡ OutOfMemory)
       × IfOk outcome (λ replies. AllAnswer (record { cipher = C; answers = E; setting = s.outside.setting; limit = s.most; key = key }) F commands replies
-          × (AllValid s.most F commands → none_refused replies ≡ true))
+      × (AllValid s.most F commands → none_refused replies ≡ true))

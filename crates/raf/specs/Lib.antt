@@ -20,3 +20,4 @@ pub mod Growing
 pub mod Verifying
 pub mod Complete
 pub mod Lending
+pub mod Probe

@@ -1,5 +1,5 @@
 -- How a change is carried out: records put one after the other, the header, the cut, and the tree (this project's own).
-use Rattle.std.specs.Prelude.{◌≡◌, ℕ, zero, suc, ◌+◌, ◌-◌, ◌*◌, ◌<◌, ◌≤◌, max, if◌then◌else◌, nat_lt, nat_eq, ◌⊎◌, Bool, true, false, List, [], length, take, drop, Option, Some, None, Result, is_ok, IfErr, OnOk, OnErr}
+use Rattle.std.specs.Prelude.{◌≡◌, ℕ, zero, suc, ◌+◌, ◌-◌, ◌*◌, ◌<◌, ◌≤◌, max, if◌then◌else◌, nat_lt, nat_eq, ◌⊎◌, true, false, List, [], length, take, drop, Option, Some, None, Result, is_ok, IfErr, OnOk, OnErr}
 use Rattle.raf_io.specs.Storage.{resized, spliced}
 use Rattle.raf_io.specs.Source.{Takes, TakesAtMost, IsShort}
 use Rattle.raf_io.specs.Kinds.{kind_of}
@@ -8,10 +8,9 @@ use Rattle.raf_tree.specs.Kept.{Kept, tree_height}
 use Rattle.raf_tree.specs.Steps.{LeafPut, Updated}
 use Rattle.raf_format.specs.Cipher.{Cipher}
 use Rattle.raf_format.specs.Header.{sealed_header}
-use Rattle.raf_format.specs.File.{Shape, tag_len, shape_of, sealed, record_at, record_len, record_start, chunk_count, chunk_len, chunk_at, layout_len}
-use Rattle.raf.specs.Change.{Change}
+use Rattle.raf_format.specs.File.{Shape, tag_len, shape_of, sealed, record_at, record_len, chunk_count, chunk_at, layout_len}
 use Rattle.raf.specs.Apply.{new_chunk}
-use Rattle.raf.specs.Outside.{Outside, Quiet, Caused, Moved, Began, MayHaveBegun}
+use Rattle.raf.specs.Outside.{Outside, Quiet, Caused, Moved, MayHaveBegun}
 use Rattle.raf.specs.Handle.{Handle, WithTree, limit_of}
 use Rattle.raf.specs.Stepped.{with_size}
 use Rattle.raf.specs.Plan.{kept_len, change_by}

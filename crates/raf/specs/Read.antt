@@ -1,7 +1,7 @@
 -- What a read of many chunks does (this project's own).
-use Rattle.std.specs.Prelude.{◌≡◌, ℕ, ◌+◌, ◌-◌, ◌*◌, ◌<◌, ◌≤◌, min, true, List, ◌++◌, length, take, drop, slice_index, slice_get, Option, Some, None, Result, OnOk, OnErr, IfErr, ◌⊎◌}
+use Rattle.std.specs.Prelude.{◌≡◌, ℕ, ◌+◌, ◌-◌, ◌*◌, ◌<◌, ◌≤◌, min, true, List, ◌++◌, length, take, drop, slice_index, slice_get, Option, Some, None, ◌⊎◌}
 use Rattle.raf_format.specs.Cipher.{Cipher}
-use Rattle.raf_format.specs.File.{File, shape_of, layout_len, chunk_count, chunk_len, record_len, chunk_at, chunks_from}
+use Rattle.raf_format.specs.File.{File, shape_of, layout_len, chunk_count, record_len, chunks_from}
 use Rattle.raf.specs.Concern.{sum_where}
 use Rattle.raf.specs.Apply.{bytes_between}
 use Rattle.raf.specs.Outside.{Outside, Kept, Quiet, Moved}

@@ -1,5 +1,5 @@
 -- The chunks of a file are compared with the tree that is kept, and opened one after the other (this project's own).
-use Rattle.std.specs.Prelude.{◌≡◌, ℕ, ◌+◌, ◌-◌, ◌<◌, ◌≤◌, ◌⊎◌, min, Bool, true, false, List, length, Option, Some, None, Result, IfOk, IfErr, OnOk, OnErr}
+use Rattle.std.specs.Prelude.{◌≡◌, ℕ, ◌-◌, ◌<◌, ◌≤◌, min, Bool, true, false, List, length, Option, Some, None, Result, IfOk, IfErr, OnOk}
 use Rattle.raf_io.specs.Kinds.{kind_of}
 use Rattle.raf_tree.specs.Hashing.{Hashing}
 use Rattle.raf_tree.specs.Kept.{Kept as Tree}

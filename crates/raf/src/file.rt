@@ -8,12 +8,17 @@ ghost use Rattle.raf.specs.Read.{OldOrOpened};
 ghost use Rattle.raf.specs.Stepped.{Stepped, read_reply, write_reply, done_reply, verify_reply, commitment_reply};
 ghost use Rattle.raf_io.specs.Kinds.{kind_of};
 ghost use Rattle.std.specs.Borrow.{sem};
+ghost use Rattle.aegis_core.specs.Sealing.{key_len};
+ghost use Rattle.aegis_core.specs.Keys.{derived_key};
+ghost use Rattle.raf_format.specs.Derived.{CanDerive};
+ghost use Rattle.raf.specs.Probe.{WhyNoKey};
 ghost use Rattle.raf.specs.Lending.{lends_storage, with_storage};
 
 use crate::changing::{truncate_to, write_bytes};
 use crate::command::Command;
 use crate::opening::OpenFile;
 use crate::outside::Parts;
+use crate::probing::refusal_of;
 use crate::reading::read_bytes;
 use crate::verifying::{commit_file, rebuild_file, verify_file};
 use raf_format::Algorithm;
@@ -56,6 +61,19 @@ impl<A: Algorithm, I: RafIo, R: RafRng, H: MerkleHasher> Raf<A, I, R, H> {
         ensures { result ≡ handle_of parts (A.key_list file.key) file.header file.tree file.broken }
     {
         Raf { parts, file }
+    }
+
+    /// A key for a context, from a master key. Refused by `InvalidArgument` of the reason `ContextTooLong` exactly where the context has
+    /// more than 120 bytes (keys of 16 bytes) or 72 (keys of 32).
+    pub fn derive_master_key(master_key: &A::Key, context: &[u8]) -> Result<A::Key, Error>
+        ensures key { IfOk result (λ key. A.key_list key ≡ derived_key A.variant (A.key_list master_key.now) context.now) }
+        ensures can { IfOk result (λ _. CanDerive (key_len A.variant) (length context.now)) }
+        ensures refused { IfErr result (λ e. WhyNoKey (key_len A.variant) (length context.now) (kind_of e)) }
+    {
+        match raf_format::derive_master_key::<A>(master_key, context) {
+            Ok(key) => Ok(key),
+            Err(error) => Err(refusal_of(error)),
+        }
     }
 
     /// The bytes from an offset on, as many as the buffer has, that lie below the size: how many they are. After a refusal each place of

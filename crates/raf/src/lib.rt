@@ -17,6 +17,7 @@ mod outside;
 mod overwriting;
 mod planning;
 mod preparing;
+mod probing;
 mod reading;
 mod serving;
 mod staging;
@@ -29,6 +30,7 @@ pub use data::Data;
 pub use file::Raf;
 pub use laws::{complete, holds_again};
 pub use outside::Parts;
+pub use probing::{derive_key, probe};
 pub use raf_format::{
     Aegis128L, Aegis128X2, Aegis128X4, Aegis256, Aegis256X2, Aegis256X4, Algorithm, AlgorithmId,
     FormatError, Header, RafInfo, Version, unprotected, write_header,

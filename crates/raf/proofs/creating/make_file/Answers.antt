@@ -1,4 +1,4 @@
-use Rattle.std.proofs.Common.{Bool, true, false, ◌≡◌, ℕ, ◌<◌, ◌≤◌, List, [], length, Option, Some, None, refl, sym, ◌∙◌, ap, subst, arith}
+use Rattle.std.proofs.Common.{ℕ, ◌≤◌, List, [], Some, refl, sym, ◌∙◌, ap, subst, arith}
 use Rattle.std.specs.Option.{option_map}
 use Rattle.std.specs.Prelude.{is_some}
 use Rattle.raf_format.specs.Cipher.{cipher_of}
@@ -6,10 +6,8 @@ use Rattle.raf_format.proofs.Ciphers.{lawful}
 use Rattle.raf_format.specs.Version.{IsVersion}
 use Rattle.raf_format.specs.Header.{sealed_header}
 use Rattle.raf_format.specs.declared.header.Header.{Header}
-use Rattle.raf_format.specs.File.{chunk_count}
 use Rattle.raf_io.specs.Kinds.{kind_of}
 use Rattle.raf_io.specs.declared.errors.Error.{Error}
-use Rattle.raf_tree.specs.Kept.{Kept as Tree}
 use Rattle.raf.specs.Handle.{Handle, handle_of}
 use Rattle.raf.specs.Opening.{NotMade, Made, TreeMade}
 use Rattle.raf.proofs.HandedOn.{handed_on}

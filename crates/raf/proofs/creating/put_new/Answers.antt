@@ -1,6 +1,4 @@
-use Rattle.std.proofs.Common.{◌≡◌, ℕ, List, Some, refl, sym, ◌∙◌, ap, subst, arith}
-use Rattle.raf_format.specs.Cipher.{cipher_of}
-use Rattle.raf.specs.Opening.{PutNew}
+use Rattle.std.proofs.Common.{ℕ, List, Some, ◌∙◌, ap, arith}
 use Rattle.raf.proofs.Moves.{moved_less, moved_then, quiet_then}
 use Rattle.raf.proofs.NewFiles.{told_cut}
 use Rattle.raf.proofs.creating.put_new.Goals as goal

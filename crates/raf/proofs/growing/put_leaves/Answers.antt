@@ -1,7 +1,6 @@
-use Rattle.std.proofs.Common.{refl, ◌∙◌, sym, ap, subst, ℕ, List, length, arith, ◌≡◌, Some, Option}
+use Rattle.std.proofs.Common.{refl, ◌∙◌, sym, ap, subst, ℕ, List, arith, ◌≡◌, Some}
 use Rattle.raf_format.specs.Cipher.{cipher_of}
-use Rattle.raf_format.specs.File.{chunk_count, chunk_at}
-use Rattle.raf_io.specs.declared.errors.Error.{Error}
+use Rattle.raf_format.specs.File.{chunk_count}
 use Rattle.raf.specs.Growing.{LeavesSoFar, LeavesStopped}
 use Rattle.raf.proofs.HandedOn.{handed_on}
 use Rattle.raf.proofs.Grown.{leaves_none, leaves_more, leaves_unloaded, leaves_unhashed}

@@ -1,4 +1,4 @@
-use Rattle.std.proofs.Common.{◌≡◌, ℕ, List, length, Option, refl, sym, ◌∙◌, subst, arith}
+use Rattle.std.proofs.Common.{◌≡◌, ℕ, List, length, Option, sym, ◌∙◌, subst, arith}
 use Rattle.raf_io.specs.Storage.{IsLengthOf}
 use Rattle.raf_format.specs.Cipher.{cipher_of}
 use Rattle.raf.specs.Loaded.{Front}

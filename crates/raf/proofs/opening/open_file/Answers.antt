@@ -1,7 +1,5 @@
-use Rattle.std.proofs.Common.{Bool, true, false, ◌≡◌, ℕ, List, Option, Some, None, refl, sym, ◌∙◌, ap, subst}
-use Rattle.std.specs.Prelude.{is_some}
+use Rattle.std.proofs.Common.{Bool, false, ◌≡◌, ℕ, List, sym, ◌∙◌, ap, subst}
 use Rattle.std.specs.Option.{option_map}
-use Rattle.raf_tree.specs.Kept.{Kept as Tree}
 use Rattle.raf_format.specs.Cipher.{cipher_of}
 use Rattle.raf_format.proofs.Ciphers.{lawful}
 use Rattle.raf.specs.Handle.{Handle, handle_of}

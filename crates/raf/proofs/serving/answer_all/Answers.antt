@@ -1,4 +1,4 @@
-use Rattle.std.proofs.Common.{◌≡◌, ℕ, ◌+◌, List, [], ◌∷◌, ◌++◌, length, take, drop, Option, arith, rules, refl, sym, ◌∙◌, ap, subst, vec_len, vec_capacity, ◌≤◌}
+use Rattle.std.proofs.Common.{◌≡◌, ℕ, ◌+◌, List, [], ◌∷◌, ◌++◌, length, take, drop, Option, arith, rules, sym, ◌∙◌, ap, subst, vec_len, vec_capacity, ◌≤◌}
 use Rattle.std.specs.Option.{option_to_list}
 use Rattle.std.proofs.lemmas.List.{take_all, length-replicate}
 use Rattle.raf_format.specs.Cipher.{cipher_of}

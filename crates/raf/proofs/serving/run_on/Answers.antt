@@ -1,7 +1,6 @@
-use Rattle.std.proofs.Common.{◌≡◌, List, sym, ◌∙◌, ap, subst}
+use Rattle.std.proofs.Common.{◌≡◌, List, sym, subst}
 use Rattle.std.specs.Result.{IsOkAnd}
 use Rattle.raf_format.specs.Cipher.{cipher_of}
-use Rattle.raf.specs.Outside.{Outside}
 use Rattle.raf.specs.Handle.{Handle}
 use Rattle.raf.specs.Ran.{Ended, End}
 use Rattle.raf.specs.declared.command.Reply.{Reply}

@@ -1,6 +1,5 @@
-use Rattle.std.proofs.Common.{Bool, false, ◌≡◌, ℕ, List, ◌++◌, length, take, Option, Some, refl, sym, ◌∙◌, ap, subst, arith}
+use Rattle.std.proofs.Common.{false, ◌≡◌, ℕ, List, ◌++◌, take, Some, sym, ◌∙◌, ap, subst, arith}
 use Rattle.std.proofs.lemmas.List.{take_at}
-use Rattle.raf_tree.specs.Kept.{Kept as Tree, kept, tree_height}
 use Rattle.raf_format.specs.Cipher.{cipher_of}
 use Rattle.raf.specs.Handle.{handle_of, hash_len_of}
 use Rattle.raf.specs.Stepped.{Went, commitment_reply}

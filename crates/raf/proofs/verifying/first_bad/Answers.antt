@@ -1,8 +1,6 @@
-use Rattle.std.proofs.Common.{◌≡◌, ℕ, List, length, arith, ◌∙◌}
-use Rattle.std.proofs.lemmas.List.{length-take}
+use Rattle.std.proofs.Common.{arith, ◌∙◌}
 use Rattle.raf_format.specs.Cipher.{cipher_of}
-use Rattle.raf_format.specs.File.{chunk_count}
-use Rattle.raf.proofs.Verified.{matched_none, matched_more, verified_first, verified_not, verified_all}
+use Rattle.raf.proofs.Verified.{matched_more, verified_first}
 use Rattle.raf.proofs.verifying.first_bad.Goals as goal
 
 pub returns-then-not-branch : goal.returns-then-not-branch

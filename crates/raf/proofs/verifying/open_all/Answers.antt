@@ -1,6 +1,6 @@
-use Rattle.std.proofs.Common.{◌≡◌, ℕ, List, length, arith, ◌∙◌}
+use Rattle.std.proofs.Common.{arith, ◌∙◌}
 use Rattle.raf_format.specs.Cipher.{cipher_of}
-use Rattle.raf.proofs.Verified.{there_none, there_more, there_not, there_all}
+use Rattle.raf.proofs.Verified.{there_more}
 use Rattle.raf.proofs.verifying.open_all.Goals as goal
 
 pub loop-index-preserved : goal.loop-index-preserved

@@ -1,12 +1,10 @@
-use Rattle.std.proofs.Common.{Bool, true, false, ◌≡◌, List, ℕ, Option, Some, None, refl, sym, ap, subst}
-use Rattle.std.specs.Prelude.{is_some}
+use Rattle.std.proofs.Common.{Option, Some, None, sym, subst}
 use Rattle.raf_tree.specs.Kept.{Kept as Tree}
 use Rattle.raf_format.specs.Cipher.{cipher_of}
 use Rattle.raf.specs.Handle.{Handle, handle_of}
 use Rattle.raf.specs.Growing.{Grew}
 use Rattle.raf.specs.Stepped.{Went, done_reply}
 use Rattle.raf_io.specs.Kinds.{kind_of}
-use Rattle.raf_io.specs.declared.errors.Error.{Error}
 use Rattle.raf_io.specs.declared.errors.ErrorKind.TheVariants.{MerkleNotEnabled}
 use Rattle.raf.specs.declared.command.Command.TheVariants.{Rebuild}
 use Rattle.raf.specs.declared.command.Reply.TheVariants.{Refused}

@@ -1,5 +1,3 @@
-use Rattle.std.proofs.Common.{Bool, ◌≡◌, Option, Some, refl}
-use Rattle.raf_tree.specs.Kept.{Kept as Tree}
 use Rattle.raf_format.specs.Cipher.{cipher_of}
 use Rattle.raf.specs.Handle.{handle_of}
 use Rattle.raf.specs.Stepped.{Went, verify_reply}
