@@ -12,12 +12,18 @@ mod program;
 #[cfg(test)]
 mod rows;
 mod running;
+#[cfg(test)]
+mod sealed;
 mod seed;
 mod standard;
 mod streams;
 #[cfg(test)]
 mod tests;
+#[cfg(test)]
+mod trial;
 mod whole;
+#[cfg(test)]
+mod wrong;
 
 use aegis::raf::MemIo;
 use program::{Words, run};

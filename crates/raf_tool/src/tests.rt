@@ -4,6 +4,7 @@ use crate::memory::{VecSink, VecSource};
 use crate::program::{Words, run};
 use crate::standard::{ReadSource, WriteSink};
 use crate::streams::{Failed, Sink, Source};
+use crate::trial::joined;
 use aegis::raf::{Aegis128L, Header, MemIo, write_header};
 use std::alloc::{AllocError, Global};
 use std::io;
@@ -30,15 +31,6 @@ fn words(alloc: Global, words: &[&str]) -> Result<Words, AllocError> {
         list.push(String::from_str(alloc, word)?)?;
     }
     Ok(Words::new(list))
-}
-
-// The pieces of a text, one after the other.
-fn joined(alloc: Global, pieces: &[&str]) -> Result<Vec<u8>, AllocError> {
-    let mut text = Vec::new(alloc);
-    for piece in pieces {
-        text.extend_from_slice(piece.as_bytes())?;
-    }
-    Ok(text)
 }
 
 // A run: what its script has after the fourth line, its replies, and the storage afterwards.
