@@ -64,3 +64,4 @@ pub mod Committed
 pub mod Changed
 pub mod Sessions
 pub mod Completes
+pub mod WrittenThenRead

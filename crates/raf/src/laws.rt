@@ -1,5 +1,5 @@
 //! What a user of the crate may rest on beside the calls.
-ghost use Rattle.std.specs.Prelude.{◌≡◌, List, ℕ, length, take, Some};
+ghost use Rattle.std.specs.Prelude.{◌≡◌, List, ℕ, length, take, Some, OnOk};
 ghost use Rattle.raf_format.specs.Cipher.{cipher_of};
 ghost use Rattle.raf_format.specs.File.{File, file_of};
 ghost use Rattle.raf.specs.Handle.{Holds};
@@ -7,7 +7,7 @@ ghost use Rattle.raf.specs.Complete.{Complete};
 
 use crate::file::Raf;
 use raf_format::Algorithm;
-use raf_io::{RafIo, RafRng};
+use raf_io::{Error, RafIo, RafRng};
 use raf_tree::MerkleHasher;
 
 /// After `storage_mut`: where the storage's first 96 bytes and its length are as before, and key and header are those kept, the handle
@@ -25,3 +25,18 @@ pub fn holds_again<A: Algorithm, I: RafIo, R: RafRng, H: MerkleHasher>(
 pub fn complete<A: Algorithm, H: MerkleHasher>()
     ensures { Complete (cipher_of A.variant) H.hashing }
 {}
+
+/// Writes bytes at an offset, and reads as many from there: they are the same.
+pub fn write_then_read<A: Algorithm, I: RafIo, R: RafRng, H: MerkleHasher>(
+    file: &mut Raf<A, I, R, H>,
+    bytes: &[u8],
+    offset: u64,
+    buf: &mut [u8],
+) -> Result<(), Error>
+    requires { length buf.old ≡ length bytes.now }
+    ensures { (F : File) → Holds (cipher_of A.variant) file.old F → OnOk result (buf.new ≡ bytes.now) }
+{
+    file.write(bytes, offset)?;
+    file.read(buf, offset)?;
+    Ok(())
+}
