@@ -1,5 +1,5 @@
 -- What was written is read again.
-use Rattle.std.proofs.Common.{◌≡◌, inl, inr, Bool, true, false, cond, not, ◌&&◌, ℕ, zero, suc, ◌+◌, ◌-◌, ◌*◌, ◌/◌, ◌<◌, ◌≤◌, min, max, List, [], ◌∷◌, ◌++◌, length, take, drop, Option, Some, None, refl, sym, ◌∙◌, ap, subst, arith, length-take, length-drop, take-append-drop}
+use Rattle.std.proofs.Common.{◌≡◌, inl, inr, Bool, true, false, cond, ◌&&◌, ℕ, zero, suc, ◌+◌, ◌-◌, ◌*◌, ◌<◌, ◌≤◌, min, max, List, [], ◌∷◌, ◌++◌, length, take, drop, Option, Some, None, refl, sym, ◌∙◌, ap, subst, arith, length-take, length-drop, take-append-drop}
 use Rattle.std.specs.Prelude.{◌⊎◌, nat_lt, nat_le, slice_get, slice_index, unwrap_or}
 use Rattle.std.proofs.lemmas.List.{drop_more, drop_all, drop-drop, take_all, append-nil, nil_from_length}
 use Rattle.std.proofs.lemmas.Bool.{cases_lt}
@@ -114,16 +114,16 @@ module _ (F : File) (K : Change) (some : 0 < F.shape.chunk_size) (busy : 0 < len
         ∙ drop_all ((j + 1) * s - o) d (omega (arith, past, next))
         ∙ sym (drop_all (j * s - o) d (omega (arith, past)))
     | inl begins ↦ elim (cases_lt o ((j + 1) * s)) [
-        | inr before ↦
-            ap (λ (l : List ℕ). take (e - max o (j * s)) l ++ drop ((j + 1) * s - o) d)
-            (drop_all (o - j * s) (unwrap_or (renewed F K j c) []) (omega (arith, short_new j c short, before, next)))
-            ∙ ap (λ (l : List ℕ). l ++ drop ((j + 1) * s - o) d) (take_all (e - max o (j * s)) [] (omega arith))
-            ∙ ap (λ (n : ℕ). drop n d) (let is : (j + 1) * s - o ≡ j * s - o = omega (arith, before, next) in is)
-        | inl ends ↦
-            ap (λ (t : Bool). take (e - max o (j * s)) (drop (o - j * s) (unwrap_or (cond t (Some (new_chunk s K j (unwrap_or c []))) c) [])) ++ drop ((j + 1) * s - o) d) (touched_in j begins ends)
-            ∙ ap (λ (l : List ℕ). l ++ drop ((j + 1) * s - o) d) (part j (unwrap_or c []) begins ends)
-            ∙ parts (min (e - max o (j * s)) (chunk_len s K.size j - (o - j * s))) (j * s - o) ((j + 1) * s - o) d (fitting begins ends)
-      ]
+      | inr before ↦
+          ap (λ (l : List ℕ). take (e - max o (j * s)) l ++ drop ((j + 1) * s - o) d)
+          (drop_all (o - j * s) (unwrap_or (renewed F K j c) []) (omega (arith, short_new j c short, before, next)))
+          ∙ ap (λ (l : List ℕ). l ++ drop ((j + 1) * s - o) d) (take_all (e - max o (j * s)) [] (omega arith))
+          ∙ ap (λ (n : ℕ). drop n d) (let is : (j + 1) * s - o ≡ j * s - o = omega (arith, before, next) in is)
+      | inl ends ↦
+          ap (λ (t : Bool). take (e - max o (j * s)) (drop (o - j * s) (unwrap_or (cond t (Some (new_chunk s K j (unwrap_or c []))) c) [])) ++ drop ((j + 1) * s - o) d) (touched_in j begins ends)
+          ∙ ap (λ (l : List ℕ). l ++ drop ((j + 1) * s - o) d) (part j (unwrap_or c []) begins ends)
+          ∙ parts (min (e - max o (j * s)) (chunk_len s K.size j - (o - j * s))) (j * s - o) ((j + 1) * s - o) d (fitting begins ends)
+    ]
   ]
     where
       next : (j + 1) * s ≡ j * s + s

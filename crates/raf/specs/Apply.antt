@@ -1,5 +1,6 @@
 -- What commands do to a file, and what is due to them (this project's own).
-use Rattle.std.specs.Prelude.{ℕ, zero, suc, ◌+◌, ◌-◌, ◌*◌, min, max, ◌&&◌, not, if◌then◌else◌, nat_lt, nat_le, List, [], ◌∷◌, ◌++◌, length, take, drop, slice_index, Option, Some, None, unwrap_or}
+use Rattle.std.specs.Prelude.{ℕ, zero, suc, ◌+◌, ◌-◌, ◌*◌, min, max, ◌&&◌, not, if◌then◌else◌, nat_lt, nat_le, List, [], ◌∷◌, ◌++◌}
+use Rattle.std.specs.Prelude.{length, take, drop, slice_index, Option, Some, None, unwrap_or}
 use Rattle.raf_io.specs.Storage.{resized}
 use Rattle.raf_format.specs.File.{File, chunk_count, chunk_len, file_layout}
 use Rattle.raf.specs.Change.{Change, change_of}

@@ -1,5 +1,6 @@
 -- Valid input and no fault: what each call then gives, by what it states (this project's own).
-use Rattle.std.specs.Prelude.{◌≡◌, ℕ, ◌^◌, ◌<◌, ◌&&◌, not, Bool, true, false, List, [], ◌∷◌, length, Option, Some, Result, IfOk, IfErr, is_some, ⊤}
+use Rattle.std.specs.Prelude.{◌≡◌, ℕ, ◌^◌, ◌<◌, ◌&&◌, not, Bool, true, false, List, [], ◌∷◌, length, Option, Some, Result, IfOk, IfErr}
+use Rattle.std.specs.Prelude.{is_some, ⊤}
 use Rattle.raf_tree.specs.Hashing.{Hashing}
 use Rattle.raf_format.specs.Cipher.{Cipher}
 use Rattle.raf_format.specs.File.{File, Opens}
@@ -32,7 +33,8 @@ none_refused [] = true
 none_refused (r ∷ replies) = not (refuses r) && none_refused replies
 
 -- bytes that open to this file, of which, where there is a hasher, no chunk is missing, and whose tree can be made
-pub record CanOpen (C : Cipher) (E : List ℕ → Hashing) (key : List ℕ) (setting : Option (List ℕ)) (most : Option ℕ) (b : List ℕ) (F : File) : Type 0 where
+pub record CanOpen (C : Cipher) (E : List ℕ → Hashing) (key : List ℕ) (setting : Option (List ℕ)) (most : Option ℕ) (b : List ℕ)
+    (F : File) : Type 0 where
   pub opens : Opens C key b F
   pub room : Room E setting most (length F.chunks)
   pub whole : is_some setting ≡ true → none_missing (λ _. true) 0 F.chunks ≡ true
@@ -46,9 +48,11 @@ pub record Complete (C : Cipher) (E : List ℕ → Hashing) : Type 0 where
       → old.bytes ≡ Some b → CanOpen C E key old.setting most b F → NoneFailed old new → kind ≡ OutOfMemory
   pub making : (b : List ℕ) (s : Settings) (old new : Outside) (kind : ErrorKind) → NotMade E s old new kind
       → old.bytes ≡ Some b → CanMake E s → IsFree s old → NoneFailed old new → kind ≡ OutOfMemory
-  pub sessions : (key b : List ℕ) (F : File) (s : Settings) (commands : List Command) (before after : Outside) (outcome : Result (List Reply) Error)
+  pub sessions : (key b : List ℕ) (F : File) (s : Settings) (commands : List Command) (before after : Outside)
+      (outcome : Result (List Reply) Error)
       → Meets C E key s commands before after outcome → before.setting ≡ s.outside.setting → before.bytes ≡ Some b
       → CanOpen C E key before.setting s.most b F → room_total (hash_len_of E s.outside.setting) commands < 2 ^ 64 → NoneFailed before after
       → IfErr outcome (λ e. kind_of e ≡ OutOfMemory)
-      × IfOk outcome (λ replies. AllAnswer (record { cipher = C; answers = E; setting = s.outside.setting; limit = s.most; key = key }) F commands replies
+      × IfOk outcome (λ replies. AllAnswer (record { cipher = C; answers = E; setting = s.outside.setting; limit = s.most; key = key }) F
+      commands replies
       × (AllValid s.most F commands → none_refused replies ≡ true))

@@ -1,5 +1,6 @@
 -- What a command concerns: the size afterwards, the chunks that it needs, and those that it touches; and whether it is valid (this project's own).
-use Rattle.std.specs.Prelude.{ℕ, zero, suc, ◌+◌, ◌*◌, ◌^◌, min, Bool, true, false, ◌&&◌, ◌||◌, not, if◌then◌else◌, nat_lt, nat_le, List, [], ◌∷◌, length, Option, Some, None, is_some}
+use Rattle.std.specs.Prelude.{ℕ, zero, suc, ◌+◌, ◌*◌, ◌^◌, min, Bool, true, false, ◌&&◌, ◌||◌, not, if◌then◌else◌, nat_lt, nat_le, List}
+use Rattle.std.specs.Prelude.{[], ◌∷◌, length, Option, Some, None, is_some}
 use Rattle.raf_format.specs.File.{File, chunk_count, chunk_len, layout_len}
 use Rattle.raf.specs.Change.{Change, change_of}
 use Rattle.raf.specs.declared.command.Command.{Command}

@@ -1,6 +1,7 @@
 -- The bytes of a storage after commands, each new record sealed under the nonce that stood in front of the random source; and the
 -- most that commands ask (this project's own).
-use Rattle.std.specs.Prelude.{ℕ, ◌+◌, ◌-◌, ◌*◌, min, Bool, if◌then◌else◌, nat_eq, nat_lt, List, [], ◌∷◌, ◌++◌, take, drop, Option, Some, None, is_some, unwrap_or}
+use Rattle.std.specs.Prelude.{ℕ, ◌+◌, ◌-◌, ◌*◌, min, Bool, if◌then◌else◌, nat_eq, nat_lt, List, [], ◌∷◌, ◌++◌, take, drop, Option, Some}
+use Rattle.std.specs.Prelude.{None, is_some, unwrap_or}
 use Rattle.raf_format.specs.Cipher.{Cipher}
 use Rattle.raf_format.specs.Header.{sealed_header}
 use Rattle.raf_format.specs.File.{File, tag_len, chunk_count, file_layout, sealed, record_at, record_len}
@@ -87,7 +88,8 @@ calls_by (Some most) F c =
 abbrev pub traced : Option ℕ → Cipher → List ℕ → File → List Command → List ℕ → List ℕ → List ℕ
 traced limit C key F [] nonces b = b
 traced limit C key F (c ∷ commands) nonces b =
-    traced limit C key (apply limit F c).1 commands (drop (asked_by limit F c) nonces) (bytes_after limit C key F c (take (asked_by limit F c) nonces) b)
+    traced limit C key (apply limit F c).1 commands (drop (asked_by limit F c) nonces)
+    (bytes_after limit C key F c (take (asked_by limit F c) nonces) b)
 
 -- the sums over commands
 abbrev pub asked_in : Option ℕ → File → List Command → ℕ

@@ -27,11 +27,15 @@ Unopened AuthenticationFailed old new = Quiet old new
 Unopened _ old new = ⊥
 
 -- the record of a chunk was read into a place and opened there, under the chunk key: the chunk stands behind the nonce
-pub record Loads (C : Cipher) (chunk_key : List ℕ) (h : Header) (index : ℕ) (old new : Outside) (after : List ℕ) (result : Result (Unit {0}) Error) : Type 0 where
-  pub loaded : (b : List ℕ) → old.bytes ≡ Some b → OnOk result (chunk_at C chunk_key h b index ≡ Some (take (chunk_len h.chunk_size h.file_size index) (drop C.nonce_len after)))
-  pub missing : (b : List ℕ) → old.bytes ≡ Some b → IfErr result (λ e. kind_of e ≡ AuthenticationFailed → chunk_at C chunk_key h b index ≡ None)
+pub record Loads (C : Cipher) (chunk_key : List ℕ) (h : Header) (index : ℕ) (old new : Outside) (after : List ℕ)
+    (result : Result (Unit {0}) Error) : Type 0 where
+  pub loaded : (b : List ℕ) → old.bytes ≡ Some b → OnOk result
+      (chunk_at C chunk_key h b index ≡ Some (take (chunk_len h.chunk_size h.file_size index) (drop C.nonce_len after)))
+  pub missing : (b : List ℕ) → old.bytes ≡ Some b → IfErr result
+      (λ e. kind_of e ≡ AuthenticationFailed → chunk_at C chunk_key h b index ≡ None)
   pub kinds : IfErr result (λ e. Unopened (kind_of e) old new)
   pub quiet : OnOk result (Quiet old new)
   pub kept : Kept old new
-  pub moved : Moved old new (record_start (shape_of C h) index + record_len (shape_of C h) h.file_size index) (record_len (shape_of C h) h.file_size index) 0 0 0
+  pub moved : Moved old new (record_start (shape_of C h) index + record_len (shape_of C h) h.file_size index)
+      (record_len (shape_of C h) h.file_size index) 0 0 0
   pub strays : (b : List ℕ) → old.bytes ≡ Some b → layout_len (shape_of C h) h.file_size ≤ length b → new.strays ≡ old.strays

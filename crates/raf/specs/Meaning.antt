@@ -1,5 +1,6 @@
 -- What a command may ask, leave and read (this project's own).
-use Rattle.std.specs.Prelude.{◌≡◌, ℕ, ◌+◌, ◌-◌, ◌*◌, ◌<◌, ◌≤◌, false, if◌then◌else◌, nat_eq, List, length, take, slice_index, Option, is_some, ⊤}
+use Rattle.std.specs.Prelude.{◌≡◌, ℕ, ◌+◌, ◌-◌, ◌*◌, ◌<◌, ◌≤◌, false, if◌then◌else◌, nat_eq, List, length, take, slice_index, Option}
+use Rattle.std.specs.Prelude.{is_some, ⊤}
 use Rattle.raf_format.specs.Cipher.{Cipher}
 use Rattle.raf_format.specs.File.{File, tag_len, IsSealedFor, record_at, chunk_count}
 use Rattle.raf.specs.Due.{Due, is_refused, is_barred}
@@ -25,7 +26,8 @@ other_calls F _ = 0
 -- the command makes calls of the storage
 abbrev pub Concerned : File → Command → Type 0
 Concerned F c =
-    1 ≤ sum_where (needed F c) (λ _. 1) 0 (chunk_count F.shape.chunk_size F.size) + sum_where (touched F c) (λ _. 1) 0 (chunk_count F.shape.chunk_size (size_after F c))
+    1 ≤ sum_where (needed F c) (λ _. 1) 0 (chunk_count F.shape.chunk_size F.size)
+    + sum_where (touched F c) (λ _. 1) 0 (chunk_count F.shape.chunk_size (size_after F c))
     + (if nat_eq (size_after F c) F.size then 0 else 1) + other_calls F c
 
 -- a fault that may come at a command: of the storage where it makes calls of it and numbers don't refuse it; of the random source where
@@ -41,7 +43,8 @@ Faultable limit _ F c = ⊥
 pub record Spares (F : File) (c : Command) (old new : List ℕ) : Type 0 where
   pub untouched : is_some (change_of F c) ≡ false → new ≡ old
   pub header : size_after F c ≡ F.size → take 96 new ≡ take 96 old
-  pub records : (index : ℕ) → index < chunk_count F.shape.chunk_size F.size → index < chunk_count F.shape.chunk_size (size_after F c) → touched F c index ≡ false
+  pub records : (index : ℕ) → index < chunk_count F.shape.chunk_size F.size → index < chunk_count F.shape.chunk_size (size_after F c)
+      → touched F c index ≡ false
       → record_at F.shape F.size index new ≡ record_at F.shape F.size index old
 
 -- each byte that a read answers is a byte of a chunk whose record, in this storage, is its sealed form

@@ -1,5 +1,6 @@
 -- How a file is opened and made, and why not (this project's own).
-use Rattle.std.specs.Prelude.{◌≡◌, ◌≢◌, ℕ, ◌+◌, ◌*◌, ◌^◌, ◌<◌, ◌≤◌, min, Bool, true, false, List, [], length, max, Option, Some, None, Result, IfOk, IfErr, OnOk, ⊤, ◌⊎◌, is_some}
+use Rattle.std.specs.Prelude.{◌≡◌, ◌≢◌, ℕ, ◌+◌, ◌*◌, ◌^◌, ◌<◌, ◌≤◌, min, Bool, true, false, List, [], length, max, Option, Some, None}
+use Rattle.std.specs.Prelude.{Result, IfOk, IfErr, OnOk, ⊤, ◌⊎◌, is_some}
 use Rattle.raf_tree.specs.Hashing.{Hashing}
 use Rattle.raf_tree.specs.Tree.{height}
 use Rattle.raf_tree.specs.Made.{CanBeMade, RefusesTree}
@@ -21,7 +22,8 @@ use Rattle.std.specs.Option.{option_map}
 use Rattle.raf_tree.specs.Kept.{Kept as Tree}
 use Rattle.raf_format.specs.declared.header.Header.{Header}
 use Rattle.raf_io.specs.declared.errors.ErrorKind.{ErrorKind}
-use Rattle.raf_io.specs.declared.errors.ErrorKind.TheVariants.{Io, InvalidArgument, AuthenticationFailed, AlreadyExists, Overflow, Rng, Hash, OutOfMemory}
+use Rattle.raf_io.specs.declared.errors.ErrorKind.TheVariants.{Io, InvalidArgument, AuthenticationFailed, AlreadyExists, Overflow, Rng}
+use Rattle.raf_io.specs.declared.errors.ErrorKind.TheVariants.{Hash, OutOfMemory}
 use Rattle.raf_io.specs.declared.errors.Reason.TheVariants as reason
 
 -- what a builder was told: the version and the chunk size of a new file, and whether it may take the place of what is there; the most
@@ -62,7 +64,8 @@ Room E setting most count = (x : List ℕ) (n : ℕ) → setting ≡ Some x → 
 abbrev pub WhyNoTree : (List ℕ → Hashing) → Option (List ℕ) → Option ℕ → ℕ → ErrorKind → Type 0
 WhyNoTree E setting most count (InvalidArgument reason.HashLen) = OfHasher E setting most (λ len n. RefusesTree len n tree.HashLen)
 WhyNoTree E setting most count (InvalidArgument reason.MaxChunks) = OfHasher E setting most (λ len n. RefusesTree len n tree.MaxChunks)
-WhyNoTree E setting most count Overflow = OfHasher E setting most (λ len n. RefusesTree len n tree.Overflow ⊎ (CanBeMade len n × (n < count)))
+WhyNoTree E setting most count Overflow = OfHasher E setting most
+    (λ len n. RefusesTree len n tree.Overflow ⊎ (CanBeMade len n × (n < count)))
 WhyNoTree E setting most count OutOfMemory = ⊤
 WhyNoTree E setting most count _ = ⊥
 
@@ -77,7 +80,8 @@ abbrev pub WhyNotLaidOut : Cipher → List ℕ → ErrorKind → Type 0
 WhyNotLaidOut C b Io = ⊤
 WhyNotLaidOut C b (InvalidArgument reason.Header) = (h : Header) → Says b h → ⊥
 WhyNotLaidOut C b (InvalidArgument reason.AlgorithmMismatch) = (h : Header) × Says b h × (h.algorithm ≢ C.id)
-WhyNotLaidOut C b (InvalidArgument reason.Layout) = (h : Header) × Says b h × (h.algorithm ≡ C.id) × (length b ≢ layout_len (shape_of C h) h.file_size)
+WhyNotLaidOut C b (InvalidArgument reason.Layout) = (h : Header) × Says b h × (h.algorithm ≡ C.id)
+    × (length b ≢ layout_len (shape_of C h) h.file_size)
 WhyNotLaidOut C b _ = ⊥
 
 -- why bytes with such a header and length were not opened, each cause where none before it stands
@@ -85,12 +89,14 @@ abbrev pub WhyNotRead : Cipher → (List ℕ → Hashing) → List ℕ → Optio
 WhyNotRead C E key setting most b h AuthenticationFailed =
     Room E setting most (chunk_count h.chunk_size h.file_size)
     × ((Tagged C key b → ⊥) ⊎ (Tagged C key b × (is_some setting ≡ true) × (none_missing (λ _. true) 0 (file_of C key h b).chunks ≡ false)))
-WhyNotRead C E key setting most b h Hash = Room E setting most (chunk_count h.chunk_size h.file_size) × Tagged C key b × (is_some setting ≡ true)
+WhyNotRead C E key setting most b h Hash = Room E setting most (chunk_count h.chunk_size h.file_size) × Tagged C key b
+    × (is_some setting ≡ true)
 WhyNotRead C E key setting most b h kind = WhyNoTree E setting most (chunk_count h.chunk_size h.file_size) kind
 
 -- why the bytes that a storage tells were not opened, each cause where none before it stands
 abbrev pub WhyNotOpened : Cipher → (List ℕ → Hashing) → List ℕ → Option (List ℕ) → Option ℕ → List ℕ → ErrorKind → Type 0
-WhyNotOpened C E key setting most b kind = WhyNotLaidOut C b kind ⊎ ((h : Header) × LaidOut C b h × WhyNotRead C E key setting most b h kind)
+WhyNotOpened C E key setting most b kind = WhyNotLaidOut C b kind
+    ⊎ ((h : Header) × LaidOut C b h × WhyNotRead C E key setting most b h kind)
 
 -- what numbers alone say of a refusal, whatever the storage tells
 abbrev pub NumbersRefuse : (List ℕ → Hashing) → Option (List ℕ) → Option ℕ → ErrorKind → Type 0
@@ -124,7 +130,8 @@ pub record Looked (old new : Outside) (most : Option ℕ) : Type 0 where
   pub kept : Kept old new
   pub later : Moved old new new.reach new.traffic 0 0 new.calls
   pub moved : (b : List ℕ) → old.bytes ≡ Some b → Moved old new (length b) (opening_traffic most (length b)) 0 0 new.calls
-  pub calls : (b : List ℕ) (h : Header) → old.bytes ≡ Some b → Says b h → new.calls ≤ old.calls + opening_calls most (chunk_count h.chunk_size h.file_size)
+  pub calls : (b : List ℕ) (h : Header) → old.bytes ≡ Some b → Says b h
+      → new.calls ≤ old.calls + opening_calls most (chunk_count h.chunk_size h.file_size)
   pub unhashed : (b : List ℕ) → old.bytes ≡ Some b → ((h : Header) → Says b h → ⊥) → new.calls ≡ old.calls
   pub header_alone : most ≡ None → Moved old new 96 96 0 0 0
   pub strays : (b : List ℕ) → old.bytes ≡ Some b → new.strays ≡ old.strays
@@ -137,11 +144,12 @@ pub record TreeMade (E : List ℕ → Hashing) (setting : Option (List ℕ)) (mo
   pub room : Room E setting most count
 
 -- an opening that was refused, under the limit of chunks that a builder has
-pub record NotOpened (C : Cipher) (E : List ℕ → Hashing) (key : List ℕ) (most : Option ℕ) (old new : Outside) (kind : ErrorKind) : Type 0 where
-  pub why : (b : List ℕ) → old.bytes ≡ Some b → WhyNotOpened C E key old.setting most b kind
-  pub numbers : NumbersRefuse E old.setting most kind
-  pub fault : RefusalFault kind old new
-  pub looked : Looked old new most
+pub record NotOpened (C : Cipher) (E : List ℕ → Hashing) (key : List ℕ) (most : Option ℕ) (old new : Outside) (kind : ErrorKind) : Type 0
+  where
+    pub why : (b : List ℕ) → old.bytes ≡ Some b → WhyNotOpened C E key old.setting most b kind
+    pub numbers : NumbersRefuse E old.setting most kind
+    pub fault : RefusalFault kind old new
+    pub looked : Looked old new most
 
 -- no more was asked of a storage of this many bytes than a header that lies in them
 pub record Within (old new : Outside) (len : ℕ) : Type 0 where
@@ -208,7 +216,8 @@ pub record PutNew (header : List ℕ) (size : ℕ) (old new : Outside) (result :
 pub record Freed (truncate : Bool) (old new : Outside) (result : Result ℕ Error) : Type 0 where
   pub size : IfOk result (λ n. IsLengthOf old.bytes n × (truncate ≡ false → n ≡ 0))
   pub failed : IfErr result (λ e. kind_of e ≡ Io → Caused Io old new)
-  pub exists : IfErr result (λ e. (kind_of e ≡ Io) ⊎ ((kind_of e ≡ AlreadyExists) × (truncate ≡ false) × ((b : List ℕ) → old.bytes ≡ Some b → b ≢ []) × Quiet old new))
+  pub exists : IfErr result (λ e. (kind_of e ≡ Io) ⊎ ((kind_of e ≡ AlreadyExists) × (truncate ≡ false)
+      × ((b : List ℕ) → old.bytes ≡ Some b → b ≢ []) × Quiet old new))
   pub quiet : OnOk result (Quiet old new)
   pub kept : Kept old new
   pub moved : Moved old new 0 0 0 0 0

@@ -1,5 +1,6 @@
 -- How a change is carried out: records put one after the other, the header, the cut, and the tree (this project's own).
-use Rattle.std.specs.Prelude.{◌≡◌, ℕ, zero, suc, ◌+◌, ◌-◌, ◌*◌, ◌<◌, ◌≤◌, max, if◌then◌else◌, nat_lt, nat_eq, ◌⊎◌, true, false, List, [], length, take, drop, Option, Some, None, Result, is_ok, IfErr, OnOk, OnErr}
+use Rattle.std.specs.Prelude.{◌≡◌, ℕ, zero, suc, ◌+◌, ◌-◌, ◌*◌, ◌<◌, ◌≤◌, max, if◌then◌else◌, nat_lt, nat_eq, ◌⊎◌, true, false, List, []}
+use Rattle.std.specs.Prelude.{length, take, drop, Option, Some, None, Result, is_ok, IfErr, OnOk, OnErr}
 use Rattle.raf_io.specs.Storage.{resized, spliced}
 use Rattle.raf_io.specs.Source.{Takes, TakesAtMost, IsShort}
 use Rattle.raf_io.specs.Kinds.{kind_of}
@@ -51,11 +52,13 @@ record_for C chunk_key h p bytes index nonce kept =
 abbrev pub KeptOf : Cipher → List ℕ → Header → Plan → ℕ → List ℕ → (ℕ → List ℕ) → Type 0
 KeptOf C chunk_key h p len b kept = (i : ℕ) → p.first ≤ i → i < p.end →
     (kept_len h.chunk_size p len i ≡ 0 → kept i ≡ [])
-    × (0 < kept_len h.chunk_size p len i → (m : List ℕ) × (chunk_at C chunk_key h b i ≡ Some m) × (kept i ≡ take (kept_len h.chunk_size p len i) m))
+    × (0 < kept_len h.chunk_size p len i → (m : List ℕ) × (chunk_at C chunk_key h b i ≡ Some m)
+    × (kept i ≡ take (kept_len h.chunk_size p len i) m))
 
 -- a chunk whose bytes are kept in part is missing
 abbrev pub Misses : Cipher → List ℕ → Header → Plan → ℕ → List ℕ → Type 0
-Misses C chunk_key h p len b = (i : ℕ) × (p.first ≤ i) × (i < p.end) × (0 < kept_len h.chunk_size p len i) × (chunk_at C chunk_key h b i ≡ None)
+Misses C chunk_key h p len b = (i : ℕ) × (p.first ≤ i) × (i < p.end) × (0 < kept_len h.chunk_size p len i)
+    × (chunk_at C chunk_key h b i ≡ None)
 
 -- the leaves of n chunks were put, from an index on, one after the other
 abbrev pub LeavesUpTo : Hashing → (ℕ → List ℕ) → ℕ → ℕ → Kept → Kept → Type 0
@@ -77,8 +80,10 @@ pub record Carried (C : Cipher) (E : List ℕ → Hashing) (chunk_key : List ℕ
   pub drawn : length nonces ≡ (p.end - p.first) * C.nonce_len
   pub taken : Takes old.outside.left nonces new.outside.left
   pub bytes_are : (b : List ℕ) → old.outside.bytes ≡ Some b
-      → new.outside.bytes ≡ Some (finished (sealed_header C old.key (with_size old.header p.size)) p.before p.size (layout_len (shape_of C old.header) p.size)
-      (placed (stride (shape_of C old.header)) (λ i. record_for C chunk_key old.header p bytes i (nonce_at C.nonce_len p.first nonces i) (kept i)) p.first (p.end - p.first) b))
+      → new.outside.bytes ≡ Some (finished (sealed_header C old.key (with_size old.header p.size)) p.before p.size
+      (layout_len (shape_of C old.header) p.size)
+      (placed (stride (shape_of C old.header)) (λ i. record_for C chunk_key old.header p bytes i (nonce_at C.nonce_len p.first nonces i)
+      (kept i)) p.first (p.end - p.first) b))
   pub tree : (t u : Kept) → old.tree ≡ Some t → new.tree ≡ Some u
       → WithTree E old (λ H _. TreeCarried H (λ i. put_chunk (shape_of C old.header) p bytes i (kept i)) p t u)
 
@@ -97,7 +102,8 @@ needed_record s p len index = if nat_lt 0 (kept_len s.chunk_size p len index) th
 -- what is read of old records: of the first touched chunk and of the last one
 abbrev pub needed_records : Shape → Plan → ℕ → ℕ
 needed_records s p len =
-    if nat_lt p.first p.end then (if nat_lt (p.first + 1) p.end then needed_record s p len p.first else 0) + needed_record s p len (p.end - 1) else 0
+    if nat_lt p.first p.end then (if nat_lt (p.first + 1) p.end then needed_record s p len p.first else 0)
+    + needed_record s p len (p.end - 1) else 0
 
 -- how long the new records of a change are: all but the last one are full
 abbrev pub new_records : Shape → Plan → ℕ
@@ -117,7 +123,8 @@ pub record Hashed (p : Plan) (tree : Option Kept) (old new : ℕ) : Type 0 where
 -- the most that a change asks of a storage and of a random source. What it asks of the hasher stands in `Hashed`
 abbrev pub ChangeMoved : Shape → Plan → ℕ → Outside → Outside → Type 0
 ChangeMoved s p len old new =
-    Moved old new (max (layout_len s p.before) (layout_len s p.size)) (needed_records s p len + (new_records s p + (if nat_eq p.size p.before then 0 else 96)))
+    Moved old new (max (layout_len s p.before) (layout_len s p.size))
+    (needed_records s p len + (new_records s p + (if nat_eq p.size p.before then 0 else 96)))
     ((p.end - p.first) * s.nonce_len) (changes_of p) (new.calls - old.calls)
 
 -- why a change was not carried out: the storage, the random source or the hasher failed, or a chunk that is needed is missing
@@ -137,26 +144,33 @@ Stopped old new =
     × (new.outside.bytes ≡ old.outside.bytes) × (new.outside.durable ≡ old.outside.durable) × (new.tree ≡ old.tree))
 
 -- a change by a plan, with this data
-pub record Changing (C : Cipher) (E : List ℕ → Hashing) (chunk_key : List ℕ) (p : Plan) (bytes : List ℕ) (old new : Handle) (result : Result (Unit {0}) Error) : Type 0 where
+pub record Changing (C : Cipher) (E : List ℕ → Hashing) (chunk_key : List ℕ) (p : Plan) (bytes : List ℕ) (old new : Handle)
+    (result : Result (Unit {0}) Error) : Type 0 where
   pub carried : OnOk result (Carried C E chunk_key p bytes old new)
-  pub missing : (b : List ℕ) → old.outside.bytes ≡ Some b → IfErr result (λ e. kind_of e ≡ AuthenticationFailed → Misses C chunk_key old.header p (length bytes) b)
+  pub missing : (b : List ℕ) → old.outside.bytes ≡ Some b
+      → IfErr result (λ e. kind_of e ≡ AuthenticationFailed → Misses C chunk_key old.header p (length bytes) b)
   pub failed : IfErr result (λ e. Unready (kind_of e) old.outside new.outside)
-  pub reads : IfErr result (λ e. kind_of e ≡ AuthenticationFailed → (i : ℕ) × (p.first ≤ i) × (i < p.end) × (0 < kept_len old.header.chunk_size p (length bytes) i))
+  pub reads : IfErr result (λ e. kind_of e ≡ AuthenticationFailed → (i : ℕ) × (p.first ≤ i) × (i < p.end)
+      × (0 < kept_len old.header.chunk_size p (length bytes) i))
   pub asks : IfErr result (λ e. kind_of e ≡ Rng → p.first < p.end)
   pub short : IfErr result (λ e. kind_of e ≡ Rng → old.outside.exact ≡ true → IsShort old.outside.left ((p.end - p.first) * C.nonce_len))
   pub hashes : IfErr result (λ e. kind_of e ≡ Hash → (t : Kept) × (new.tree ≡ Some t))
   pub there : (b : List ℕ) → old.outside.bytes ≡ Some b
-      → IfErr result (λ e. (kind_of e ≡ Rng) ⊎ (kind_of e ≡ Hash) ⊎ (new.broken ≡ true) → Misses C chunk_key old.header p (length bytes) b → ⊥)
+      → IfErr result (λ e. (kind_of e ≡ Rng) ⊎ (kind_of e ≡ Hash) ⊎ (new.broken ≡ true) → Misses C chunk_key old.header p (length bytes) b
+      → ⊥)
   pub unbegun : IfErr result (λ e. kind_of e ≡ AuthenticationFailed → new.broken ≡ false)
   pub early : IfErr result (λ e. (kind_of e ≡ AuthenticationFailed) ⊎ ((kind_of e ≡ Io) × (new.broken ≡ false))
       → (new.outside.left ≡ old.outside.left)
-      × Moved old.outside new.outside (layout_len (shape_of C old.header) p.before) (needed_records (shape_of C old.header) p (length bytes)) 0 0 0)
+      × Moved old.outside new.outside (layout_len (shape_of C old.header) p.before)
+      (needed_records (shape_of C old.header) p (length bytes)) 0 0 0)
   pub quiet : OnOk result (Quiet old.outside new.outside)
   pub left : OnErr result (TakesAtMost old.outside.left ((p.end - p.first) * C.nonce_len) new.outside.left)
-  pub spared : (b : List ℕ) → old.outside.bytes ≡ Some b → length b ≡ layout_len (shape_of C old.header) p.before → SparedTo (shape_of C old.header) p b new.outside.bytes
+  pub spared : (b : List ℕ) → old.outside.bytes ≡ Some b → length b ≡ layout_len (shape_of C old.header) p.before
+      → SparedTo (shape_of C old.header) p b new.outside.bytes
   pub moved : ChangeMoved (shape_of C old.header) p (length bytes) old.outside new.outside
   pub hashed : Hashed p old.tree old.outside.calls new.outside.calls
-  pub strays : (b : List ℕ) → old.outside.bytes ≡ Some b → layout_len (shape_of C old.header) p.before ≤ length b → new.outside.strays ≡ old.outside.strays
+  pub strays : (b : List ℕ) → old.outside.bytes ≡ Some b → layout_len (shape_of C old.header) p.before ≤ length b
+      → new.outside.strays ≡ old.outside.strays
   pub stopped : OnErr result (Stopped old new)
   pub unmarked : OnOk result (new.broken ≡ false)
   pub key : new.key ≡ old.key

@@ -8,7 +8,8 @@ use Rattle.raf.specs.Apply.{file_after, longest}
 use Rattle.raf.specs.Image.{traced, asked_in, changes_in, traffic_in, calls_in}
 use Rattle.raf.specs.Outside.{Outside, Quiet, Moved}
 use Rattle.raf.specs.Handle.{Handle, Holds, WithTree, Grown, limit_of, outline}
-use Rattle.raf.specs.Session.{Ground, AllAnswer, AllAuthentic, settled_after, IsDurable, Ran, AllShaped, CutShort, numbers_in, asked_along, stops}
+use Rattle.raf.specs.Session.{Ground, AllAnswer, AllAuthentic, settled_after, IsDurable, Ran, AllShaped, CutShort, numbers_in}
+use Rattle.raf.specs.Session.{asked_along, stops}
 use Rattle.raf.specs.declared.command.Command.{Command}
 use Rattle.raf.specs.declared.command.Reply.{Reply}
 use Rattle.raf_io.specs.Kinds.{kind_of}
@@ -25,7 +26,8 @@ stopped_by stopped (c ∷ commands) (r ∷ replies) = stopped_by (stopped || sto
 stopped_by stopped _ _ = stopped
 
 -- commands without a fault so far, over a storage that tells
-pub record SoFar (C : Cipher) (E : List ℕ → Hashing) (old now : Handle) (F : File) (b : List ℕ) (commands : List Command) (replies : List Reply) : Type 0 where
+pub record SoFar (C : Cipher) (E : List ℕ → Hashing) (old now : Handle) (F : File) (b : List ℕ) (commands : List Command)
+    (replies : List Reply) : Type 0 where
   pub played : AllAnswer (ground C E old) F commands replies
   pub nonces : List ℕ
   pub drawn : length nonces ≡ asked_in (limit_of old) F commands
@@ -34,7 +36,8 @@ pub record SoFar (C : Cipher) (E : List ℕ → Hashing) (old now : Handle) (F :
   pub holds : Holds C now (file_after (limit_of old) F commands)
   pub grown : WithTree E now (Grown (file_after (limit_of old) F commands))
   pub authentic : AllAuthentic (ground C E old) F commands nonces b
-  pub moved : Moved old.outside now.outside (longest (limit_of old) F commands) (traffic_in (limit_of old) F commands) (asked_in (limit_of old) F commands)
+  pub moved : Moved old.outside now.outside (longest (limit_of old) F commands) (traffic_in (limit_of old) F commands)
+      (asked_in (limit_of old) F commands)
       (changes_in (limit_of old) F commands) (calls_in (limit_of old) F commands)
   pub strays : now.outside.strays ≡ old.outside.strays
   pub unmarked : now.broken ≡ false
@@ -50,7 +53,8 @@ pub record NumbersSoFar (C : Cipher) (old now : Handle) (commands : List Command
 
 -- both
 pub record Progress (C : Cipher) (E : List ℕ → Hashing) (old now : Handle) (commands : List Command) (replies : List Reply) : Type 0 where
-  pub told : (F : File) (held : Holds C old F) → WithTree E old (Grown F) → old.broken ≡ false → SoFar C E old now F held.bytes commands replies
+  pub told : (F : File) (held : Holds C old F) → WithTree E old (Grown F) → old.broken ≡ false
+      → SoFar C E old now F held.bytes commands replies
   pub numbers : old.broken ≡ false → NumbersSoFar C old now commands replies
   pub quiet : old.broken ≡ false → Quiet old.outside now.outside
   pub key : now.key ≡ old.key
@@ -67,7 +71,8 @@ pub record EndedByNumbers (C : Cipher) (old new : Handle) (commands : List Comma
 
 -- commands that are done, up to the first fault
 pub record Ended (C : Cipher) (E : List ℕ → Hashing) (old new : Handle) (commands : List Command) (replies : List Reply) : Type 0 where
-  pub told : (F : File) (held : Holds C old F) → WithTree E old (Grown F) → old.broken ≡ false → Ran (ground C E old) F held.bytes commands old.outside new.outside replies
+  pub told : (F : File) (held : Holds C old F) → WithTree E old (Grown F) → old.broken ≡ false
+      → Ran (ground C E old) F held.bytes commands old.outside new.outside replies
   pub numbers : old.broken ≡ false → EndedByNumbers C old new commands replies
 
 -- how a session ended
@@ -76,6 +81,7 @@ pub record End : Type 0 where
   pub outside : Outside
 
 -- commands on a file that was opened: they were answered, or no memory was found for the replies, and then nothing happened
-pub record Serves (C : Cipher) (E : List ℕ → Hashing) (old : Handle) (commands : List Command) (after : Outside) (outcome : Result (List Reply) Error) : Type 0 where
+pub record Serves (C : Cipher) (E : List ℕ → Hashing) (old : Handle) (commands : List Command) (after : Outside)
+    (outcome : Result (List Reply) Error) : Type 0 where
   pub answered : IfOk outcome (λ replies. (now : Handle) × Ended C E old now commands replies × (after ≡ now.outside))
   pub none : IfErr outcome (λ e. (kind_of e ≡ OutOfMemory) × (after ≡ old.outside))

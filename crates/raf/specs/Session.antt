@@ -1,5 +1,6 @@
 -- What a session answers (this project's own).
-use Rattle.std.specs.Prelude.{◌≡◌, ℕ, ◌+◌, ◌^◌, ◌<◌, ◌≤◌, max, Bool, true, false, ◌||◌, if◌then◌else◌, List, [], ◌∷◌, ◌++◌, length, take, drop, replicate, Option, Some, None, unwrap_or, Result, IfOk, IfErr, ⊤, ◌⊎◌}
+use Rattle.std.specs.Prelude.{◌≡◌, ℕ, ◌+◌, ◌^◌, ◌<◌, ◌≤◌, max, Bool, true, false, ◌||◌, if◌then◌else◌, List, [], ◌∷◌, ◌++◌, length, take}
+use Rattle.std.specs.Prelude.{drop, replicate, Option, Some, None, unwrap_or, Result, IfOk, IfErr, ⊤, ◌⊎◌}
 use Rattle.raf_io.specs.Source.{Takes, TakesAtMost, IsShort}
 use Rattle.raf_tree.specs.Hashing.{Hashing}
 use Rattle.raf_tree.specs.Tree.{root, leaves, height}
@@ -81,14 +82,16 @@ module _ (G : Ground) where
   AllAnswer F [] [] = ⊤
   AllAnswer F [] (r ∷ replies) = ⊥
   AllAnswer F (c ∷ commands) [] = ⊥
-  AllAnswer F (c ∷ commands) (r ∷ replies) = Answers (TreeDecides G.answers G.setting G.limit F c) (apply G.limit F c).0 r × AllAnswer (apply G.limit F c).1 commands replies
+  AllAnswer F (c ∷ commands) (r ∷ replies) = Answers (TreeDecides G.answers G.setting G.limit F c) (apply G.limit F c).0 r
+      × AllAnswer (apply G.limit F c).1 commands replies
 
   -- each byte that is read is authentic, in the storage as its command began
   abbrev pub AllAuthentic : File → List Command → List ℕ → List ℕ → Type 0
   AllAuthentic F [] nonces b = ⊤
   AllAuthentic F (c ∷ commands) nonces b =
       Authentic G.cipher G.key b F c (apply G.limit F c).0
-      × AllAuthentic (apply G.limit F c).1 commands (drop (asked_by G.limit F c) nonces) (bytes_after G.limit G.cipher G.key F c (take (asked_by G.limit F c) nonces) b)
+      × AllAuthentic (apply G.limit F c).1 commands (drop (asked_by G.limit F c) nonces)
+      (bytes_after G.limit G.cipher G.key F c (take (asked_by G.limit F c) nonces) b)
 
   -- commands and their replies without a fault: the replies are those that are due; the storage is the trace's under the nonces that were
   -- taken, and opens to play's file; and what was read is authentic
@@ -162,7 +165,8 @@ module _ (limit : Option ℕ) where
   AllShaped F stopped [] (r ∷ replies) = ⊥
   AllShaped F stopped (c ∷ commands) [] = ⊥
   AllShaped F stopped (c ∷ commands) (r ∷ replies) =
-      (Shaped limit F c r ⊎ ((stopped ≡ true) × (r ≡ Refused Broken))) × AllShaped (numbers_after F c r) (stopped || stops c r) commands replies
+      (Shaped limit F c r ⊎ ((stopped ≡ true) × (r ≡ Refused Broken)))
+      × AllShaped (numbers_after F c r) (stopped || stops c r) commands replies
 
   -- the numbers after commands and their replies, and the most random bytes that they asked
   abbrev pub numbers_in : File → List Command → List Reply → File
@@ -206,15 +210,18 @@ Refusal C E key s commands before after kind =
 -- how commands on an open file ended, over a storage that tells
 pub record Ran (G : Ground) (F : File) (b : List ℕ) (commands : List Command) (before after : Outside) (replies : List Reply) : Type 0 where
   pub run : Whole G F b commands before after replies ⊎ Faulted G F b commands before after replies
-  pub moved : Moved before after (longest G.limit F (begun G commands replies)) (traffic_in G.limit F (begun G commands replies)) (asked_in G.limit F (begun G commands replies))
+  pub moved : Moved before after (longest G.limit F (begun G commands replies)) (traffic_in G.limit F (begun G commands replies))
+      (asked_in G.limit F (begun G commands replies))
       (changes_in G.limit F (begun G commands replies)) (calls_in G.limit F (begun G commands replies))
   pub strays : after.strays ≡ before.strays
 
 -- a session of a key and commands, by a builder's settings, from one state of storage, random source and hasher to another
-pub record Meets (C : Cipher) (E : List ℕ → Hashing) (key : List ℕ) (s : Settings) (commands : List Command) (before after : Outside) (outcome : Result (List Reply) Error) : Type 0 where
+pub record Meets (C : Cipher) (E : List ℕ → Hashing) (key : List ℕ) (s : Settings) (commands : List Command) (before after : Outside)
+    (outcome : Result (List Reply) Error) : Type 0 where
   pub refused : IfErr outcome (λ e. Refusal C E key s commands before after (kind_of e))
   pub fits : IfOk outcome (λ _. room_total (hash_len_of E s.outside.setting) commands < 2 ^ 64)
   pub answered : (b : List ℕ) → before.bytes ≡ Some b
-      → IfOk outcome (λ replies. Answered (record { cipher = C; answers = E; setting = s.outside.setting; limit = s.most; key = key }) b commands before after replies)
+      → IfOk outcome (λ replies. Answered (record { cipher = C; answers = E; setting = s.outside.setting; limit = s.most; key = key }) b
+      commands before after replies)
   pub numbers : IfOk outcome (λ replies. ByNumbers s.most commands before after replies)
   pub setting : after.setting ≡ before.setting

@@ -1,5 +1,6 @@
 -- One command on an open file: what every call on it states, each of its own command and reply (this project's own).
-use Rattle.std.specs.Prelude.{◌≡◌, ℕ, ◌+◌, ◌-◌, ◌≤◌, min, max, Bool, true, false, if◌then◌else◌, List, length, take, Option, Some, Result, Ok, Err, ◌⊎◌}
+use Rattle.std.specs.Prelude.{◌≡◌, ℕ, ◌+◌, ◌-◌, ◌≤◌, min, max, Bool, true, false, if◌then◌else◌, List, length, take, Option, Some, Result}
+use Rattle.std.specs.Prelude.{Ok, Err, ◌⊎◌}
 use Rattle.raf_io.specs.Storage.{Told, SyncedTo}
 use Rattle.raf_io.specs.Source.{Takes, TakesAtMost, IsShort}
 use Rattle.raf_tree.specs.Hashing.{Hashing}
@@ -70,17 +71,18 @@ may_settle _ = false
 -- a command that was answered without a fault, over a storage that tells: the reply is the one that is due; storage and random source
 -- are those of the image; the new handle holds the new file and has no kept mark; what was read is authentic; and the kept tree goes with
 -- the file
-pub record Answered (C : Cipher) (E : List ℕ → Hashing) (old new : Handle) (F : File) (b : List ℕ) (c : Command) (reply : Reply) : Type 0 where
-  pub due : Answers (λ r. OfTree E old (KeptAnswer F c r)) (apply (limit_of old) F c).0 reply
-  pub nonces : List ℕ
-  pub drawn : length nonces ≡ asked_by (limit_of old) F c
-  pub taken : Takes old.outside.left nonces new.outside.left
-  pub tells : new.outside.bytes ≡ Some (bytes_after (limit_of old) C old.key F c nonces b)
-  pub holds : Holds C new (apply (limit_of old) F c).1
-  pub authentic : Authentic C old.key b F c (apply (limit_of old) F c).0
-  pub grown : WithTree E old (Grown F) ⊎ ((c ≡ command.Rebuild) × (reply ≡ Done)) → WithTree E new (Grown (apply (limit_of old) F c).1)
-  pub unmarked : new.broken ≡ false
-  pub still : refuses reply ≡ true → (new.outside.changes ≡ old.outside.changes) × (new.outside.calls ≡ old.outside.calls)
+pub record Answered (C : Cipher) (E : List ℕ → Hashing) (old new : Handle) (F : File) (b : List ℕ) (c : Command) (reply : Reply) : Type 0
+  where
+    pub due : Answers (λ r. OfTree E old (KeptAnswer F c r)) (apply (limit_of old) F c).0 reply
+    pub nonces : List ℕ
+    pub drawn : length nonces ≡ asked_by (limit_of old) F c
+    pub taken : Takes old.outside.left nonces new.outside.left
+    pub tells : new.outside.bytes ≡ Some (bytes_after (limit_of old) C old.key F c nonces b)
+    pub holds : Holds C new (apply (limit_of old) F c).1
+    pub authentic : Authentic C old.key b F c (apply (limit_of old) F c).0
+    pub grown : WithTree E old (Grown F) ⊎ ((c ≡ command.Rebuild) × (reply ≡ Done)) → WithTree E new (Grown (apply (limit_of old) F c).1)
+    pub unmarked : new.broken ≡ false
+    pub still : refuses reply ≡ true → (new.outside.changes ≡ old.outside.changes) × (new.outside.calls ≡ old.outside.calls)
 
 -- one that a fault cut short, over a storage that tells
 pub record Cut (old new : Handle) (F : File) (b : List ℕ) (c : Command) : Type 0 where
@@ -101,7 +103,8 @@ pub record Failed (C : Cipher) (old new : Handle) (c : Command) (reply : Reply) 
 -- the most that a command asked
 abbrev pub Bounded : Option ℕ → Outside → Outside → File → Command → Type 0
 Bounded limit old new F c =
-    Moved old new (max (file_layout F) (file_layout (apply limit F c).1)) (traffic_by limit F c) (asked_by limit F c) (changes_by limit F c) (calls_by limit F c)
+    Moved old new (max (file_layout F) (file_layout (apply limit F c).1)) (traffic_by limit F c) (asked_by limit F c)
+    (changes_by limit F c) (calls_by limit F c)
 
 -- by numbers it needs a chunk
 abbrev pub Needs : File → Command → Type 0
@@ -116,7 +119,8 @@ HasForm _ reply = ⊥
 -- the reply that no fault cut short, by numbers alone
 abbrev pub Shaped : Option ℕ → File → Command → Reply → Type 0
 Shaped limit F (command.Read offset len) reply =
-    ((reply ≡ Refused AuthenticationFailed) × Needs F (command.Read offset len)) ⊎ ((got : List ℕ) × (reply ≡ Bytes got) × (length got ≡ min (offset + len) F.size - offset))
+    ((reply ≡ Refused AuthenticationFailed) × Needs F (command.Read offset len))
+    ⊎ ((got : List ℕ) × (reply ≡ Bytes got) × (length got ≡ min (offset + len) F.size - offset))
 Shaped limit F command.Rebuild reply = (is_refused (apply limit F command.Rebuild).0 ≡ true → reply ≡ Refused MerkleNotEnabled)
     × (is_refused (apply limit F command.Rebuild).0 ≡ false → (reply ≡ Done) ⊎ (reply ≡ Refused AuthenticationFailed))
 Shaped limit F c reply =
@@ -135,7 +139,8 @@ pub record Stays (C : Cipher) (old new : Handle) (c : Command) (reply : Reply) :
   pub key : new.key ≡ old.key
   pub limit : limit_of new ≡ limit_of old
   pub header : new.header ≡ (if refuses reply then old.header else with_size old.header (size_after (outline C old.header) c))
-  pub bytes : may_mark c ≡ false ⊎ ((refuses reply ≡ true) × (new.broken ≡ false)) → (new.outside.bytes ≡ old.outside.bytes) × (new.tree ≡ old.tree)
+  pub bytes : may_mark c ≡ false ⊎ ((refuses reply ≡ true) × (new.broken ≡ false)) → (new.outside.bytes ≡ old.outside.bytes)
+      × (new.tree ≡ old.tree)
   pub durable : may_settle c ≡ false → new.outside.durable ≡ old.outside.durable
   pub synced : c ≡ command.Sync → reply ≡ Done → Told (SyncedTo old.outside.bytes) old.outside.durable new.outside.durable
 

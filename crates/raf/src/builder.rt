@@ -225,7 +225,8 @@ impl<A: Algorithm, R: RafRng, H: MerkleHasher> RafBuilder<A, R, H> {
 
     /// What the builder holds, and a storage.
     pub(crate) fn into_parts<I: RafIo>(self, io: I) -> Parts<I, R, H>
-        ensures { result ≡ over_storage (I.bytes io) (I.durable io) (I.faults io) (I.reach io) (I.traffic io) (I.changes io) (I.strays io) self.outside }
+        ensures { result ≡ over_storage (I.bytes io) (I.durable io) (I.faults io) (I.reach io) (I.traffic io) (I.changes io) (I.strays io)
+            self.outside }
     {
         let RafBuilder {
             rng,
@@ -248,8 +249,12 @@ impl<A: Algorithm, R: RafRng, H: MerkleHasher> RafBuilder<A, R, H> {
         io: I,
         key: &A::Key,
     ) -> Result<Raf<A, I, R, H>, OpenError<I, R, H>>
-        ensures made { IfOk result (λ raf. Made (cipher_of A.variant) H.hashing (A.key_list key.now) self (over_storage (I.bytes io) (I.durable io) (I.faults io) (I.reach io) (I.traffic io) (I.changes io) (I.strays io) self.outside) raf) }
-        ensures refused { IfErr result (λ e. NotMade H.hashing self (over_storage (I.bytes io) (I.durable io) (I.faults io) (I.reach io) (I.traffic io) (I.changes io) (I.strays io) self.outside) e.outside e.kind) }
+        ensures made { IfOk result (λ raf. Made (cipher_of A.variant) H.hashing (A.key_list key.now) self
+            (over_storage (I.bytes io) (I.durable io) (I.faults io) (I.reach io) (I.traffic io) (I.changes io) (I.strays io) self.outside)
+            raf) }
+        ensures refused { IfErr result (λ e. NotMade H.hashing self
+            (over_storage (I.bytes io) (I.durable io) (I.faults io) (I.reach io) (I.traffic io) (I.changes io) (I.strays io) self.outside)
+            e.outside e.kind) }
     {
         let RafBuilder {
             rng,
@@ -277,8 +282,12 @@ impl<A: Algorithm, R: RafRng, H: MerkleHasher> RafBuilder<A, R, H> {
         io: I,
         key: &A::Key,
     ) -> Result<Raf<A, I, R, H>, OpenError<I, R, H>>
-        ensures opened { IfOk result (λ raf. Opened (cipher_of A.variant) H.hashing (A.key_list key.now) self.most (over_storage (I.bytes io) (I.durable io) (I.faults io) (I.reach io) (I.traffic io) (I.changes io) (I.strays io) self.outside) raf) }
-        ensures refused { IfErr result (λ e. NotOpened (cipher_of A.variant) H.hashing (A.key_list key.now) self.most (over_storage (I.bytes io) (I.durable io) (I.faults io) (I.reach io) (I.traffic io) (I.changes io) (I.strays io) self.outside) e.outside e.kind) }
+        ensures opened { IfOk result (λ raf. Opened (cipher_of A.variant) H.hashing (A.key_list key.now) self.most
+            (over_storage (I.bytes io) (I.durable io) (I.faults io) (I.reach io) (I.traffic io) (I.changes io) (I.strays io) self.outside)
+            raf) }
+        ensures refused { IfErr result (λ e. NotOpened (cipher_of A.variant) H.hashing (A.key_list key.now) self.most
+            (over_storage (I.bytes io) (I.durable io) (I.faults io) (I.reach io) (I.traffic io) (I.changes io) (I.strays io) self.outside)
+            e.outside e.kind) }
     {
         let RafBuilder {
             rng,

@@ -44,7 +44,8 @@ fn carry<A: Algorithm, I: RafIo, R: RafRng, H: MerkleHasher>(
     requires old_room { HasRoom (chunk_count header.now.chunk_size plan.now.before) tree.old }
     ensures changing { Changing (cipher_of A.variant) H.hashing (A.key_list chunk_key.now) plan.now bytes.now
         (handle_of parts.old (A.key_list key.now) header.now tree.old broken.old)
-        (handle_of parts.new (A.key_list key.now) (if is_ok result then with_size header.now plan.now.size else header.now) tree.new broken.new) result }
+        (handle_of parts.new (A.key_list key.now) (if is_ok result then with_size header.now plan.now.size else header.now) tree.new
+        broken.new) result }
     ensures same { SameTree tree.old tree.new }
 {
     prepare::<A, I, R, H>(parts, chunk_key, header, plan, bytes.len(), first, second)?;

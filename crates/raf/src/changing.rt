@@ -33,8 +33,10 @@ pub fn write_bytes<A: Algorithm, I: RafIo, R: RafRng, H: MerkleHasher>(
 ) -> Result<usize, Error>
     requires unmarked { file.old.broken ≡ false }
     requires paired { Paired H.hashing parts.old.setting file.old.tree }
-    ensures went { Went (cipher_of A.variant) H.hashing (handle_of parts.old (A.key_list file.old.key) file.old.header file.old.tree file.old.broken)
-        (handle_of parts.new (A.key_list file.new.key) file.new.header file.new.tree file.new.broken) (Command.Write offset buf.now) (write_reply result) }
+    ensures went { Went (cipher_of A.variant) H.hashing
+        (handle_of parts.old (A.key_list file.old.key) file.old.header file.old.tree file.old.broken)
+        (handle_of parts.new (A.key_list file.new.key) file.new.header file.new.tree file.new.broken) (Command.Write offset buf.now)
+        (write_reply result) }
     ensures paired { Paired H.hashing parts.new.setting file.new.tree }
 {
     if buf.is_empty() {
@@ -59,8 +61,10 @@ pub fn truncate_to<A: Algorithm, I: RafIo, R: RafRng, H: MerkleHasher>(
 ) -> Result<(), Error>
     requires unmarked { file.old.broken ≡ false }
     requires paired { Paired H.hashing parts.old.setting file.old.tree }
-    ensures went { Went (cipher_of A.variant) H.hashing (handle_of parts.old (A.key_list file.old.key) file.old.header file.old.tree file.old.broken)
-        (handle_of parts.new (A.key_list file.new.key) file.new.header file.new.tree file.new.broken) (Command.Truncate size) (done_reply result) }
+    ensures went { Went (cipher_of A.variant) H.hashing
+        (handle_of parts.old (A.key_list file.old.key) file.old.header file.old.tree file.old.broken)
+        (handle_of parts.new (A.key_list file.new.key) file.new.header file.new.tree file.new.broken) (Command.Truncate size)
+        (done_reply result) }
     ensures paired { Paired H.hashing parts.new.setting file.new.tree }
 {
     if size == file.header.file_size {

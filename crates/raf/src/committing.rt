@@ -60,8 +60,10 @@ pub fn commit<A: Algorithm, I: RafIo, R: RafRng, H: MerkleHasher>(
     requires paired { Paired H.hashing parts.old.setting tree.old }
     requires tree_room { HasRoom plan.now.count tree.old }
     requires old_room { HasRoom (chunk_count header.now.chunk_size plan.now.before) tree.old }
-    ensures { Commits (cipher_of A.variant) H.hashing (A.key_list key.now) (A.key_list chunk_key.now) header.now plan.now bytes.now (kept_in (cipher_of A.variant) header.now plan.now (length bytes.now) first.old second.old)
-        (take (cipher_of A.variant).nonce_len (buffer_of plan.now plan.now.first first.old second.old)) parts.old parts.new tree.old tree.new result }
+    ensures { Commits (cipher_of A.variant) H.hashing (A.key_list key.now) (A.key_list chunk_key.now) header.now plan.now bytes.now
+        (kept_in (cipher_of A.variant) header.now plan.now (length bytes.now) first.old second.old)
+        (take (cipher_of A.variant).nonce_len (buffer_of plan.now plan.now.first first.old second.old)) parts.old parts.new tree.old
+        tree.new result }
 {
     store_touched::<A, I, R, H>(parts, tree, chunk_key, header, plan, bytes, first, second)?;
     finish::<A, I, R, H>(parts, key, header, plan)?;

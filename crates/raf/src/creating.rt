@@ -70,9 +70,11 @@ pub fn make_file<A: Algorithm, I: RafIo, R: RafRng, H: MerkleHasher>(
     fresh: &Fresh,
 ) -> Result<OpenFile<A>, Error>
     ensures made { (s : Settings) → FreshOf fresh.now max_chunks parts.old s
-        → IfOk result (λ f. Made (cipher_of A.variant) H.hashing (A.key_list key.now) s parts.old (handle_of parts.new (A.key_list f.key) f.header f.tree f.broken)) }
+        → IfOk result (λ f. Made (cipher_of A.variant) H.hashing (A.key_list key.now) s parts.old
+        (handle_of parts.new (A.key_list f.key) f.header f.tree f.broken)) }
     ensures paired { IfOk result (λ f. Paired H.hashing parts.new.setting f.tree) }
-    ensures refused { (s : Settings) → FreshOf fresh.now max_chunks parts.old s → IfErr result (λ e. NotMade H.hashing s parts.old parts.new (kind_of e)) }
+    ensures refused { (s : Settings) → FreshOf fresh.now max_chunks parts.old s
+        → IfErr result (λ e. NotMade H.hashing s parts.old parts.new (kind_of e)) }
 {
     if fresh.chunk_size < 16 || fresh.chunk_size > 1048576 {
         return Err(Error::InvalidArgument(Reason::ChunkSize));

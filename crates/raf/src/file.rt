@@ -1,5 +1,6 @@
 //! An open file, and its calls.
-ghost use Rattle.std.specs.Prelude.{◌≡◌, ◌+◌, ◌<◌, ◌≤◌, List, ℕ, length, take, drop, Some, Option, IfOk, IfErr, OnOk, OnErr, IsErrAnd, true, false};
+ghost use Rattle.std.specs.Prelude.{◌≡◌, ◌+◌, ◌<◌, ◌≤◌, List, ℕ, length, take, drop, Some, Option, IfOk, IfErr, OnOk, OnErr, IsErrAnd};
+ghost use Rattle.std.specs.Prelude.{true, false};
 ghost use Rattle.std.specs.Option.{option_map};
 ghost use Rattle.raf_format.specs.Cipher.{cipher_of};
 ghost use Rattle.raf_format.specs.File.{File};
@@ -79,7 +80,8 @@ impl<A: Algorithm, I: RafIo, R: RafRng, H: MerkleHasher> Raf<A, I, R, H> {
     /// The bytes from an offset on, as many as the buffer has, that lie below the size: how many they are. After a refusal each place of
     /// the buffer has its old byte, or one of a chunk that opened.
     pub fn read(&mut self, buf: &mut [u8], offset: u64) -> Result<usize, Error>
-        ensures stepped { Stepped (cipher_of A.variant) H.hashing self.old self.new (Command.Read offset (length buf.old)) (read_reply buf.new result) }
+        ensures stepped { Stepped (cipher_of A.variant) H.hashing self.old self.new (Command.Read offset (length buf.old))
+            (read_reply buf.new result) }
         ensures rest { IfOk result (λ n. drop n buf.new ≡ drop n buf.old) }
         ensures refused { (F : File) → Holds (cipher_of A.variant) self.old F → OnErr result (OldOrOpened F offset buf.old buf.new) }
     {
@@ -163,7 +165,8 @@ impl<A: Algorithm, I: RafIo, R: RafRng, H: MerkleHasher> Raf<A, I, R, H> {
         ensures broken { self.old.broken ≡ true → IsErrAnd result (λ e. kind_of e ≡ ErrorKind.Broken) × (self.new ≡ self.old) }
         ensures short { self.old.broken ≡ false → length out.old < hash_len_of H.hashing self.old.outside.setting →
             IsErrAnd result (λ e. kind_of e ≡ ErrorKind.InvalidArgument Reason.CommitmentBuffer) × (self.new ≡ self.old) }
-        ensures rest { drop (hash_len_of H.hashing self.old.outside.setting) out.new ≡ drop (hash_len_of H.hashing self.old.outside.setting) out.old }
+        ensures rest { drop (hash_len_of H.hashing self.old.outside.setting) out.new
+            ≡ drop (hash_len_of H.hashing self.old.outside.setting) out.old }
     {
         if self.file.broken {
             return Err(Error::Broken);
@@ -184,7 +187,8 @@ impl<A: Algorithm, I: RafIo, R: RafRng, H: MerkleHasher> Raf<A, I, R, H> {
     /// The storage. What it holds afterwards is the caller's affair: the file's calls state what they do over a storage whose first 96
     /// bytes and whose length are as before.
     pub fn storage_mut(&mut self) -> &mut I
-        ensures* writes_back { sem 𝓛 (lends_storage A.row I.row R.row H.row A.Key.row A.Algorithm I.RafIo R.RafRng H.MerkleHasher self.entry result) }
+        ensures* writes_back { sem 𝓛 (lends_storage A.row I.row R.row H.row A.Key.row A.Algorithm I.RafIo R.RafRng H.MerkleHasher
+            self.entry result) }
         ensures value { with_storage I.RafIo self.old result.now ≡ self.old }
     {
         &mut self.parts.io
@@ -202,7 +206,8 @@ impl<A: Algorithm, I: RafIo, R: RafRng, H: MerkleHasher> Raf<A, I, R, H> {
     pub fn into_io(self) -> I
         ensures bytes { I.bytes result ≡ self.outside.bytes }
         ensures durable { I.durable result ≡ self.outside.durable }
-        ensures counts { (I.faults result ≡ self.outside.io_faults) × (I.reach result ≡ self.outside.reach) × (I.traffic result ≡ self.outside.traffic)
+        ensures counts { (I.faults result ≡ self.outside.io_faults) × (I.reach result ≡ self.outside.reach)
+            × (I.traffic result ≡ self.outside.traffic)
             × (I.changes result ≡ self.outside.changes) × (I.strays result ≡ self.outside.strays) }
     {
         let Parts {

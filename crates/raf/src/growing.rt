@@ -1,5 +1,6 @@
 //! The tree of a file: how it is made for a hasher, and made anew from the file's chunks.
-ghost use Rattle.std.specs.Prelude.{◌≡◌, ◌+◌, ◌-◌, ◌*◌, ◌^◌, ◌<◌, ◌≤◌, List, ℕ, length, Some, is_some, false, IfOk, IfErr, OnOk, OnErr, true};
+ghost use Rattle.std.specs.Prelude.{◌≡◌, ◌+◌, ◌-◌, ◌*◌, ◌^◌, ◌<◌, ◌≤◌, List, ℕ, length, Some, is_some, false, IfOk, IfErr, OnOk, OnErr};
+ghost use Rattle.std.specs.Prelude.{true};
 ghost use Rattle.std.specs.Option.{option_map};
 ghost use Rattle.counts.specs.Counts.{Rose};
 ghost use Rattle.raf_tree.specs.Kept.{Kept, kept, tree_height};
@@ -30,8 +31,10 @@ pub fn tree_for<H: MerkleHasher>(
     max_chunks: u64,
     count: u64,
 ) -> Result<Option<Tree>, Error>
-    ensures made { IfOk result (TreeMade H.hashing (option_map H.setting hasher.now) (option_map (λ _. max_chunks) (option_map H.setting hasher.now)) count) }
-    ensures refused { IfErr result (λ e. WhyNoTree H.hashing (option_map H.setting hasher.now) (option_map (λ _. max_chunks) (option_map H.setting hasher.now)) count (kind_of e)) }
+    ensures made { IfOk result (TreeMade H.hashing (option_map H.setting hasher.now)
+        (option_map (λ _. max_chunks) (option_map H.setting hasher.now)) count) }
+    ensures refused { IfErr result (λ e. WhyNoTree H.hashing (option_map H.setting hasher.now)
+        (option_map (λ _. max_chunks) (option_map H.setting hasher.now)) count (kind_of e)) }
 {
     let Some(hasher) = hasher else {
         return Ok(None);
@@ -54,7 +57,8 @@ impl<I: RafIo, R: RafRng, H: MerkleHasher> Parts<I, R, H> {
         ensures built { OnOk result (OfTrees H.hashing self.old.setting tree.old tree.new (λ K t u. Built K count t u)) }
         ensures shapes { SameTree tree.old tree.new }
         ensures kept { Kept_ self.old self.new }
-        ensures failed { IfErr result (λ e. (kind_of e ≡ ErrorKind.Hash) × Caused ErrorKind.Hash self.old self.new × Rose self.old.calls self.new.calls) }
+        ensures failed { IfErr result (λ e. (kind_of e ≡ ErrorKind.Hash) × Caused ErrorKind.Hash self.old self.new
+            × Rose self.old.calls self.new.calls) }
         ensures quiet { OnOk result (Quiet self.old self.new) }
         ensures moved { Moved self.old self.new 0 0 0 0 (self.new.calls - self.old.calls) }
         ensures there { OnErr result (is_some self.old.setting ≡ true) }
@@ -81,7 +85,8 @@ impl<I: RafIo, R: RafRng, H: MerkleHasher> Parts<I, R, H> {
         requires index { index < tree.now.max_chunks }
         requires chunk { length chunk.now ≤ 2 ^ 60 }
         ensures same { IfOk result (λ r. (x : List ℕ) → self.old.setting ≡ Some x
-            → (r ≡ true → (H.hashing x).leaf chunk.now index ≡ kept tree.now 0 index) × (r ≡ false → (H.hashing x).leaf chunk.now index ≡ kept tree.now 0 index → ⊥)) }
+            → (r ≡ true → (H.hashing x).leaf chunk.now index ≡ kept tree.now 0 index)
+            × (r ≡ false → (H.hashing x).leaf chunk.now index ≡ kept tree.now 0 index → ⊥)) }
         ensures kept { Kept_ self.old self.new }
         ensures failed { IfErr result (λ e. (kind_of e ≡ ErrorKind.Hash) × Caused ErrorKind.Hash self.old self.new) }
         ensures quiet { OnOk result (Quiet self.old self.new) }
@@ -105,7 +110,8 @@ impl<I: RafIo, R: RafRng, H: MerkleHasher> Parts<I, R, H> {
         requires paired { Paired H.hashing self.old.setting (Some tree.now) }
         requires out { length out.old ≡ tree.now.hash_len }
         requires id { length id.now ≤ 2 ^ 60 }
-        ensures commitment { OnOk result ((x : List ℕ) → self.old.setting ≡ Some x → out.new ≡ (H.hashing x).commitment (kept tree.now (tree_height tree.now) 0) id.now size) }
+        ensures commitment { OnOk result ((x : List ℕ) → self.old.setting ≡ Some x
+            → out.new ≡ (H.hashing x).commitment (kept tree.now (tree_height tree.now) 0) id.now size) }
         ensures kept { Kept_ self.old self.new }
         ensures failed { IfErr result (λ e. (kind_of e ≡ ErrorKind.Hash) × Caused ErrorKind.Hash self.old self.new) }
         ensures quiet { OnOk result (Quiet self.old self.new) }
@@ -137,9 +143,11 @@ fn put_leaves<A: Algorithm, I: RafIo, R: RafRng, H: MerkleHasher>(
     requires paired { Paired H.hashing parts.old.setting tree.old }
     requires room { HasRoom (chunk_count header.now.chunk_size header.now.file_size) tree.old }
     requires unbegun { begun.old ≡ false }
-    ensures put { OnOk result (LeavesSoFar (cipher_of A.variant) H.hashing (A.key_list chunk_key.now) header.now (chunk_count header.now.chunk_size header.now.file_size)
+    ensures put { OnOk result (LeavesSoFar (cipher_of A.variant) H.hashing (A.key_list chunk_key.now) header.now
+        (chunk_count header.now.chunk_size header.now.file_size)
         parts.old parts.new tree.old tree.new begun.new) }
-    ensures stopped { IfErr result (λ e. LeavesStopped (cipher_of A.variant) (A.key_list chunk_key.now) header.now parts.old parts.new tree.old tree.new begun.new e) }
+    ensures stopped { IfErr result (λ e. LeavesStopped (cipher_of A.variant) (A.key_list chunk_key.now) header.now parts.old parts.new
+        tree.old tree.new begun.new e) }
 {
     tree_laws();
     for index in 0..count_of(header) {
@@ -166,7 +174,8 @@ pub fn grow<A: Algorithm, I: RafIo, R: RafRng, H: MerkleHasher>(
     requires paired { Paired H.hashing parts.old.setting tree.old }
     requires room { HasRoom (chunk_count header.now.chunk_size header.now.file_size) tree.old }
     requires unbegun { begun.old ≡ false }
-    ensures grew { Grew (cipher_of A.variant) H.hashing (A.key_list chunk_key.now) header.now parts.old parts.new tree.old tree.new begun.new result }
+    ensures grew { Grew (cipher_of A.variant) H.hashing (A.key_list chunk_key.now) header.now parts.old parts.new tree.old tree.new
+        begun.new result }
     ensures room { length buf.new.items ≡ length buf.old.items }
 {
     tree_laws();

@@ -16,8 +16,10 @@ pub fn holds_again<A: Algorithm, I: RafIo, R: RafRng, H: MerkleHasher>(
     before: &Raf<A, I, R, H>,
     after: &Raf<A, I, R, H>,
 )
-    ensures { (F : File) (c : List ℕ) (held : Holds (cipher_of A.variant) before.now F) → after.now.key ≡ before.now.key → after.now.header ≡ before.now.header → after.now.outside.bytes ≡ Some c
-        → take 96 c ≡ take 96 held.bytes → length c ≡ length held.bytes → Holds (cipher_of A.variant) after.now (file_of (cipher_of A.variant) after.now.key after.now.header c) }
+    ensures { (F : File) (c : List ℕ) (held : Holds (cipher_of A.variant) before.now F) → after.now.key ≡ before.now.key
+        → after.now.header ≡ before.now.header → after.now.outside.bytes ≡ Some c
+        → take 96 c ≡ take 96 held.bytes → length c ≡ length held.bytes
+        → Holds (cipher_of A.variant) after.now (file_of (cipher_of A.variant) after.now.key after.now.header c) }
 {}
 
 /// Valid input and no fault: on an open file without the kept mark every valid command is answered, whatever memory there is; and a file

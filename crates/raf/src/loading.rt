@@ -86,7 +86,8 @@ pub fn chunk_of<'a, A: Algorithm>(header: &Header, index: u64, record: &'a [u8])
     requires sound { Sound (cipher_of A.variant) header.now }
     requires there { index < chunk_count header.now.chunk_size header.now.file_size }
     requires room { length record.now ≡ (cipher_of A.variant).nonce_len + header.now.chunk_size + tag_len_of header.now.version }
-    ensures chunk { result.now ≡ take (chunk_len header.now.chunk_size header.now.file_size index) (drop (cipher_of A.variant).nonce_len record.now) }
+    ensures chunk { result.now ≡ take (chunk_len header.now.chunk_size header.now.file_size index)
+        (drop (cipher_of A.variant).nonce_len record.now) }
     ensures short { length result.now ≤ 2 ^ 60 }
 {
     let behind = nonce_length::<A>();

@@ -1,5 +1,6 @@
 //! What an open file keeps, and how its header is found.
-ghost use Rattle.std.specs.Prelude.{◌≡◌, ◌+◌, ◌^◌, ◌≤◌, List, ℕ, length, is_some, true, Option, Some, None, false, MatchOption, IfOk, IfErr, OnOk, OnErr};
+ghost use Rattle.std.specs.Prelude.{◌≡◌, ◌+◌, ◌^◌, ◌≤◌, List, ℕ, length, is_some, true, Option, Some, None, false, MatchOption, IfOk};
+ghost use Rattle.std.specs.Prelude.{IfErr, OnOk, OnErr};
 ghost use Rattle.std.specs.Option.{option_map};
 ghost use Rattle.raf_format.specs.Cipher.{cipher_of};
 ghost use Rattle.raf.specs.Loaded.{Front};
@@ -76,7 +77,8 @@ pub fn count_of(header: &Header) -> u64
 fn layout_of<A: Algorithm>(header: &Header) -> Option<u64>
     requires least { 16 ≤ header.now.chunk_size }
     requires most { header.now.chunk_size ≤ 1048576 }
-    ensures { MatchOption result (2 ^ 64 ≤ layout_len (shape_of (cipher_of A.variant) header.now) header.now.file_size) (λ n. n ≡ layout_len (shape_of (cipher_of A.variant) header.now) header.now.file_size) }
+    ensures { MatchOption result (2 ^ 64 ≤ layout_len (shape_of (cipher_of A.variant) header.now) header.now.file_size)
+        (λ n. n ≡ layout_len (shape_of (cipher_of A.variant) header.now) header.now.file_size) }
 {
     layout_len(
         nonce_length::<A>(),
@@ -99,10 +101,12 @@ pub struct Found {
 pub fn find_header<A: Algorithm, I: RafIo, R: RafRng, H: MerkleHasher>(
     parts: &mut Parts<I, R, H>,
 ) -> Result<Found, Error>
-    ensures found { (b : List ℕ) → parts.old.bytes ≡ Some b → IfOk result (λ f. LaidOut (cipher_of A.variant) b f.header × Front b f.bytes) }
+    ensures found { (b : List ℕ) → parts.old.bytes ≡ Some b
+        → IfOk result (λ f. LaidOut (cipher_of A.variant) b f.header × Front b f.bytes) }
     ensures sound { IfOk result (λ f. Sound (cipher_of A.variant) f.header) }
     ensures refused { (b : List ℕ) → parts.old.bytes ≡ Some b → IfErr result (λ e. WhyNotLaidOut (cipher_of A.variant) b (kind_of e)) }
-    ensures numbers { IfErr result (λ e. (E : List ℕ → Hashing) (setting : Option (List ℕ)) (most : Option ℕ) → NumbersRefuse E setting most (kind_of e)) }
+    ensures numbers { IfErr result (λ e. (E : List ℕ → Hashing) (setting : Option (List ℕ)) (most : Option ℕ)
+        → NumbersRefuse E setting most (kind_of e)) }
     ensures fault { IfErr result (λ e. RefusalFault (kind_of e) parts.old parts.new) }
     ensures quiet { OnOk result (Quiet parts.old parts.new) }
     ensures kept { Kept parts.old parts.new }
@@ -143,8 +147,10 @@ fn room(alloc: Global, len: usize) -> Result<Vec<u8>, Error>
 /// Room for two records of a file with this header.
 pub fn rooms<A: Algorithm>(alloc: Global, header: &Header) -> Result<(Vec<u8>, Vec<u8>), Error>
     requires { header.now.chunk_size ≤ 1048576 }
-    ensures first { IfOk result (λ r. length r.0.items ≡ (cipher_of A.variant).nonce_len + header.now.chunk_size + tag_len_of header.now.version) }
-    ensures second { IfOk result (λ r. length r.1.items ≡ (cipher_of A.variant).nonce_len + header.now.chunk_size + tag_len_of header.now.version) }
+    ensures first { IfOk result (λ r. length r.0.items ≡ (cipher_of A.variant).nonce_len + header.now.chunk_size
+        + tag_len_of header.now.version) }
+    ensures second { IfOk result (λ r. length r.1.items ≡ (cipher_of A.variant).nonce_len + header.now.chunk_size
+        + tag_len_of header.now.version) }
     ensures none { IfErr result (λ e. kind_of e ≡ ErrorKind.OutOfMemory) }
 {
     let len = nonce_length::<A>() + header.chunk_size as usize + header.tag_len();
@@ -185,9 +191,11 @@ fn open_bare<A: Algorithm, I: RafIo, R: RafRng, H: MerkleHasher>(
     key: &A::Key,
     max_chunks: u64,
 ) -> Result<OpenFile<A>, Error>
-    ensures opened { IfOk result (λ f. OpenedBare (cipher_of A.variant) H.hashing (A.key_list key.now) (option_map (λ _. max_chunks) parts.old.setting) parts.old
+    ensures opened { IfOk result (λ f. OpenedBare (cipher_of A.variant) H.hashing (A.key_list key.now)
+        (option_map (λ _. max_chunks) parts.old.setting) parts.old
         (handle_of parts.new (A.key_list f.key) f.header f.tree f.broken)) }
-    ensures refused { IfErr result (λ e. NotOpened (cipher_of A.variant) H.hashing (A.key_list key.now) (option_map (λ _. max_chunks) parts.old.setting) parts.old parts.new (kind_of e)) }
+    ensures refused { IfErr result (λ e. NotOpened (cipher_of A.variant) H.hashing (A.key_list key.now)
+        (option_map (λ _. max_chunks) parts.old.setting) parts.old parts.new (kind_of e)) }
 {
     let found = find_header::<A, I, R, H>(parts)?;
     let count = count_of(&found.header);
@@ -207,7 +215,8 @@ pub fn grow_file<A: Algorithm, I: RafIo, R: RafRng, H: MerkleHasher>(
     requires some { is_some file.old.tree ≡ true }
     requires paired { Paired H.hashing parts.old.setting file.old.tree }
     requires unmarked { file.old.broken ≡ false }
-    ensures grew { Grew (cipher_of A.variant) H.hashing (A.key_list file.old.chunk_key) file.old.header parts.old parts.new file.old.tree file.new.tree file.new.broken result }
+    ensures grew { Grew (cipher_of A.variant) H.hashing (A.key_list file.old.chunk_key) file.old.header parts.old parts.new file.old.tree
+        file.new.tree file.new.broken result }
     ensures unmarked { OnOk result (file.new.broken ≡ false) }
     ensures same { (file.new.key ≡ file.old.key) × (file.new.header ≡ file.old.header) }
 {
@@ -230,10 +239,12 @@ pub fn open_file<A: Algorithm, I: RafIo, R: RafRng, H: MerkleHasher>(
     key: &A::Key,
     max_chunks: u64,
 ) -> Result<OpenFile<A>, Error>
-    ensures opened { IfOk result (λ f. Opened (cipher_of A.variant) H.hashing (A.key_list key.now) (option_map (λ _. max_chunks) parts.old.setting) parts.old
+    ensures opened { IfOk result (λ f. Opened (cipher_of A.variant) H.hashing (A.key_list key.now)
+        (option_map (λ _. max_chunks) parts.old.setting) parts.old
         (handle_of parts.new (A.key_list f.key) f.header f.tree f.broken)) }
     ensures paired { IfOk result (λ f. Paired H.hashing parts.new.setting f.tree) }
-    ensures refused { IfErr result (λ e. NotOpened (cipher_of A.variant) H.hashing (A.key_list key.now) (option_map (λ _. max_chunks) parts.old.setting) parts.old parts.new (kind_of e)) }
+    ensures refused { IfErr result (λ e. NotOpened (cipher_of A.variant) H.hashing (A.key_list key.now)
+        (option_map (λ _. max_chunks) parts.old.setting) parts.old parts.new (kind_of e)) }
 {
     let mut file = open_bare::<A, I, R, H>(alloc, parts, key, max_chunks)?;
     if file.tree.is_none() {

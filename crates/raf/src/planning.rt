@@ -99,9 +99,12 @@ pub fn plan_write<A: Algorithm>(
 ) -> Option<Plan>
     requires least { 16 ≤ header.now.chunk_size }
     requires most { header.now.chunk_size ≤ 1048576 }
-    ensures found { IfSome result (λ p. p ≡ plan_of (shape_of (cipher_of A.variant) header.now) header.now.file_size (write_change header.now.file_size offset buf.now)) }
-    ensures fits { IfSome result (λ p. can_have limit (outline (cipher_of A.variant) header.now) (max header.now.file_size (offset + length buf.now)) ≡ true) }
-    ensures none { IsNone result → can_have limit (outline (cipher_of A.variant) header.now) (max header.now.file_size (offset + length buf.now)) ≡ false }
+    ensures found { IfSome result (λ p. p ≡ plan_of (shape_of (cipher_of A.variant) header.now) header.now.file_size
+        (write_change header.now.file_size offset buf.now)) }
+    ensures fits { IfSome result (λ p. can_have limit (outline (cipher_of A.variant) header.now)
+        (max header.now.file_size (offset + length buf.now)) ≡ true) }
+    ensures none { IsNone result → can_have limit (outline (cipher_of A.variant) header.now)
+        (max header.now.file_size (offset + length buf.now)) ≡ false }
 {
     let before = header.file_size;
     let end = offset.checked_add(buf.len() as u64)?;
@@ -122,7 +125,8 @@ pub fn plan_write<A: Algorithm>(
 pub fn plan_truncate<A: Algorithm>(header: &Header, size: u64, limit: Option<u64>) -> Option<Plan>
     requires least { 16 ≤ header.now.chunk_size }
     requires most { header.now.chunk_size ≤ 1048576 }
-    ensures found { IfSome result (λ p. p ≡ plan_of (shape_of (cipher_of A.variant) header.now) header.now.file_size (truncate_change header.now.chunk_size header.now.file_size size)) }
+    ensures found { IfSome result (λ p. p ≡ plan_of (shape_of (cipher_of A.variant) header.now) header.now.file_size
+        (truncate_change header.now.chunk_size header.now.file_size size)) }
     ensures fits { IfSome result (λ p. can_have limit (outline (cipher_of A.variant) header.now) size ≡ true) }
     ensures none { IsNone result → can_have limit (outline (cipher_of A.variant) header.now) size ≡ false }
 {

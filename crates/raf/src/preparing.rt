@@ -32,7 +32,9 @@ fn load_needed<A: Algorithm, I: RafIo, R: RafRng, H: MerkleHasher>(
     requires size { plan.now.before ≡ header.now.file_size }
     requires touched { index < plan.now.end }
     requires room { length buf.old ≡ (cipher_of A.variant).nonce_len + header.now.chunk_size + tag_len_of header.now.version }
-    ensures { Readies (cipher_of A.variant) (A.key_list chunk_key.now) header.now plan.now index (kept_len header.now.chunk_size plan.now len index) (needed_record (shape_of (cipher_of A.variant) header.now) plan.now len index) parts.old parts.new buf.new result }
+    ensures { Readies (cipher_of A.variant) (A.key_list chunk_key.now) header.now plan.now index
+        (kept_len header.now.chunk_size plan.now len index) (needed_record (shape_of (cipher_of A.variant) header.now) plan.now len index)
+        parts.old parts.new buf.new result }
 {
     if kept_of(header, plan, len, index) == 0 {
         return Ok(());
@@ -54,8 +56,10 @@ fn load_first<A: Algorithm, I: RafIo, R: RafRng, H: MerkleHasher>(
     requires size { plan.now.before ≡ header.now.file_size }
     requires some { plan.now.first < plan.now.end }
     requires room { length buf.old ≡ (cipher_of A.variant).nonce_len + header.now.chunk_size + tag_len_of header.now.version }
-    ensures { Readies (cipher_of A.variant) (A.key_list chunk_key.now) header.now plan.now plan.now.first (if nat_lt (plan.now.first + 1) plan.now.end then kept_len header.now.chunk_size plan.now len plan.now.first else 0)
-        (if nat_lt (plan.now.first + 1) plan.now.end then needed_record (shape_of (cipher_of A.variant) header.now) plan.now len plan.now.first else 0) parts.old parts.new buf.new result }
+    ensures { Readies (cipher_of A.variant) (A.key_list chunk_key.now) header.now plan.now plan.now.first
+        (if nat_lt (plan.now.first + 1) plan.now.end then kept_len header.now.chunk_size plan.now len plan.now.first else 0)
+        (if nat_lt (plan.now.first + 1) plan.now.end then needed_record (shape_of (cipher_of A.variant) header.now) plan.now len
+        plan.now.first else 0) parts.old parts.new buf.new result }
 {
     if plan.first + 1 == plan.end {
         return Ok(());
@@ -79,7 +83,8 @@ fn prepare_some<A: Algorithm, I: RafIo, R: RafRng, H: MerkleHasher>(
     requires some { plan.now.first < plan.now.end }
     requires first_room { length first.old ≡ (cipher_of A.variant).nonce_len + header.now.chunk_size + tag_len_of header.now.version }
     requires second_room { length second.old ≡ (cipher_of A.variant).nonce_len + header.now.chunk_size + tag_len_of header.now.version }
-    ensures { Prepares (cipher_of A.variant) (A.key_list chunk_key.now) header.now plan.now len parts.old parts.new first.new second.new result }
+    ensures { Prepares (cipher_of A.variant) (A.key_list chunk_key.now) header.now plan.now len parts.old parts.new first.new second.new
+        result }
 {
     load_first::<A, I, R, H>(parts, chunk_key, header, plan, len, first)?;
     load_needed::<A, I, R, H>(parts, chunk_key, header, plan, len, plan.end - 1, second)?;
@@ -102,7 +107,8 @@ pub fn prepare<A: Algorithm, I: RafIo, R: RafRng, H: MerkleHasher>(
     requires size { plan.now.before ≡ header.now.file_size }
     requires first_room { length first.old ≡ (cipher_of A.variant).nonce_len + header.now.chunk_size + tag_len_of header.now.version }
     requires second_room { length second.old ≡ (cipher_of A.variant).nonce_len + header.now.chunk_size + tag_len_of header.now.version }
-    ensures { Prepares (cipher_of A.variant) (A.key_list chunk_key.now) header.now plan.now len parts.old parts.new first.new second.new result }
+    ensures { Prepares (cipher_of A.variant) (A.key_list chunk_key.now) header.now plan.now len parts.old parts.new first.new second.new
+        result }
 {
     if plan.first == plan.end {
         return Ok(());

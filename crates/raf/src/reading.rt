@@ -1,5 +1,6 @@
 //! A range of a file is read, chunk by chunk.
-ghost use Rattle.std.specs.Prelude.{◌≡◌, ◌+◌, ◌-◌, ◌*◌, ◌/◌, ◌<◌, ◌≤◌, List, ℕ, length, take, drop, Some, None, IfOk, IfErr, OnOk, OnErr, false};
+ghost use Rattle.std.specs.Prelude.{◌≡◌, ◌+◌, ◌-◌, ◌*◌, ◌/◌, ◌<◌, ◌≤◌, List, ℕ, length, take, drop, Some, None, IfOk, IfErr, OnOk, OnErr};
+ghost use Rattle.std.specs.Prelude.{false};
 ghost use Rattle.raf_format.specs.Cipher.{cipher_of};
 ghost use Rattle.raf_format.specs.File.{chunk_count, chunk_len};
 ghost use Rattle.raf_format.specs.Version.{tag_len_of};
@@ -26,7 +27,8 @@ fn copy_chunk<A: Algorithm>(header: &Header, index: u64, record: &[u8], buf: &mu
     requires inside { offset + length buf.old ≤ header.now.file_size }
     requires begins { index * header.now.chunk_size < offset + length buf.old }
     requires ends { offset < (index + 1) * header.now.chunk_size }
-    ensures { buf.new ≡ with_chunk header.now.chunk_size offset index (take (chunk_len header.now.chunk_size header.now.file_size index) (drop (cipher_of A.variant).nonce_len record.now)) buf.old }
+    ensures { buf.new ≡ with_chunk header.now.chunk_size offset index
+        (take (chunk_len header.now.chunk_size header.now.file_size index) (drop (cipher_of A.variant).nonce_len record.now)) buf.old }
 {
     let start = index * u64::from(header.chunk_size);
     let from = offset.saturating_sub(start) as usize;
@@ -53,7 +55,8 @@ fn read_chunk<A: Algorithm, I: RafIo, R: RafRng, H: MerkleHasher>(
     requires begins { index * header.now.chunk_size < offset + length buf.old }
     requires ends { offset < (index + 1) * header.now.chunk_size }
     ensures loads { Loads (cipher_of A.variant) (A.key_list chunk_key.now) header.now index parts.old parts.new record.new result }
-    ensures copied { OnOk result (buf.new ≡ with_chunk header.now.chunk_size offset index (take (chunk_len header.now.chunk_size header.now.file_size index) (drop (cipher_of A.variant).nonce_len record.new)) buf.old) }
+    ensures copied { OnOk result (buf.new ≡ with_chunk header.now.chunk_size offset index
+        (take (chunk_len header.now.chunk_size header.now.file_size index) (drop (cipher_of A.variant).nonce_len record.new)) buf.old) }
     ensures kept { OnErr result (buf.new ≡ buf.old) }
 {
     load::<A, I, R, H>(parts, chunk_key, header, index, record)?;
@@ -74,8 +77,11 @@ pub fn read_range<A: Algorithm, I: RafIo, R: RafRng, H: MerkleHasher>(
     requires room { length record.old ≡ (cipher_of A.variant).nonce_len + header.now.chunk_size + tag_len_of header.now.version }
     requires some { 0 < length buf.old }
     requires inside { offset + length buf.old ≤ header.now.file_size }
-    ensures read { OnOk result (ReadSoFar (cipher_of A.variant) (A.key_list chunk_key.now) header.now offset (offset / header.now.chunk_size) ((offset + length buf.old - 1) / header.now.chunk_size + 1) parts.old parts.new buf.old buf.new) }
-    ensures refused { IfErr result (λ e. Unread (cipher_of A.variant) (A.key_list chunk_key.now) header.now offset (offset / header.now.chunk_size) ((offset + length buf.old - 1) / header.now.chunk_size + 1) parts.old parts.new buf.old buf.new e) }
+    ensures read { OnOk result (ReadSoFar (cipher_of A.variant) (A.key_list chunk_key.now) header.now offset
+        (offset / header.now.chunk_size) ((offset + length buf.old - 1) / header.now.chunk_size + 1) parts.old parts.new buf.old buf.new) }
+    ensures refused { IfErr result (λ e. Unread (cipher_of A.variant) (A.key_list chunk_key.now) header.now offset
+        (offset / header.now.chunk_size) ((offset + length buf.old - 1) / header.now.chunk_size + 1) parts.old parts.new buf.old buf.new
+        e) }
 {
     let chunk_size = u64::from(header.chunk_size);
     let first = offset / chunk_size;
@@ -101,8 +107,12 @@ fn read_front<A: Algorithm, I: RafIo, R: RafRng, H: MerkleHasher>(
     requires some { 0 < n }
     requires fits { n ≤ length buf.old }
     requires inside { offset + n ≤ header.now.file_size }
-    ensures read { OnOk result (ReadSoFar (cipher_of A.variant) (A.key_list chunk_key.now) header.now offset (offset / header.now.chunk_size) ((offset + n - 1) / header.now.chunk_size + 1) parts.old parts.new (take n buf.old) (take n buf.new)) }
-    ensures refused { IfErr result (λ e. Unread (cipher_of A.variant) (A.key_list chunk_key.now) header.now offset (offset / header.now.chunk_size) ((offset + n - 1) / header.now.chunk_size + 1) parts.old parts.new (take n buf.old) (take n buf.new) e) }
+    ensures read { OnOk result (ReadSoFar (cipher_of A.variant) (A.key_list chunk_key.now) header.now offset
+        (offset / header.now.chunk_size) ((offset + n - 1) / header.now.chunk_size + 1) parts.old parts.new (take n buf.old)
+        (take n buf.new)) }
+    ensures refused { IfErr result (λ e. Unread (cipher_of A.variant) (A.key_list chunk_key.now) header.now offset
+        (offset / header.now.chunk_size) ((offset + n - 1) / header.now.chunk_size + 1) parts.old parts.new (take n buf.old)
+        (take n buf.new) e) }
     ensures rest { drop n buf.new ≡ drop n buf.old }
     ensures room { length record.new.items ≡ length record.old.items }
 {
@@ -118,10 +128,14 @@ pub fn read_bytes<A: Algorithm, I: RafIo, R: RafRng, H: MerkleHasher>(
     offset: u64,
 ) -> Result<usize, Error>
     requires { file.old.broken ≡ false }
-    ensures went { Went (cipher_of A.variant) H.hashing (handle_of parts.old (A.key_list file.old.key) file.old.header file.old.tree file.old.broken)
-        (handle_of parts.new (A.key_list file.new.key) file.new.header file.new.tree file.new.broken) (Command.Read offset (length buf.old)) (read_reply buf.new result) }
+    ensures went { Went (cipher_of A.variant) H.hashing
+        (handle_of parts.old (A.key_list file.old.key) file.old.header file.old.tree file.old.broken)
+        (handle_of parts.new (A.key_list file.new.key) file.new.header file.new.tree file.new.broken)
+        (Command.Read offset (length buf.old)) (read_reply buf.new result) }
     ensures rest { IfOk result (λ n. drop n buf.new ≡ drop n buf.old) }
-    ensures refused { (F : File) → Holds (cipher_of A.variant) (handle_of parts.old (A.key_list file.old.key) file.old.header file.old.tree file.old.broken) F → OnErr result (OldOrOpened F offset buf.old buf.new) }
+    ensures refused { (F : File) → Holds (cipher_of A.variant)
+        (handle_of parts.old (A.key_list file.old.key) file.old.header file.old.tree file.old.broken) F
+        → OnErr result (OldOrOpened F offset buf.old buf.new) }
     ensures paired { parts.new.setting ≡ parts.old.setting }
 {
     let size = file.header.file_size;

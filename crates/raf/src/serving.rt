@@ -1,5 +1,6 @@
 //! Commands on an open file, answered in order up to the first fault.
-ghost use Rattle.std.specs.Prelude.{◌≡◌, ◌+◌, ◌≤◌, List, ℕ, [], length, take, replicate, map, Option, Some, vec_capacity, IfOk, IsOkAnd, IsTrue, ◌↔◌, ◌<◌, ◌^◌};
+ghost use Rattle.std.specs.Prelude.{◌≡◌, ◌+◌, ◌≤◌, List, ℕ, [], length, take, replicate, map, Option, Some, vec_capacity, IfOk, IsOkAnd};
+ghost use Rattle.std.specs.Prelude.{IsTrue, ◌↔◌, ◌<◌, ◌^◌};
 ghost use Rattle.raf_format.specs.Cipher.{cipher_of};
 ghost use Rattle.raf.specs.Stepped.{Stepped, done_reply, write_reply, verify_reply};
 ghost use Rattle.raf.specs.Handle.{Handle, hash_len_of};
@@ -262,7 +263,8 @@ fn run_on<A: Algorithm, I: RafIo, R: RafRng, H: MerkleHasher>(
     requires rooms { rooms.items ≡ map (room_for (hash_len_of H.hashing file.outside.setting)) commands.now }
     requires none { replies.items ≡ [] }
     requires capacity { length commands.now ≤ vec_capacity replies }
-    ensures { IsOkAnd result.outcome (λ answers. (now : Handle) × Ended (cipher_of A.variant) H.hashing file now commands.now answers × (result.outside ≡ now.outside)) }
+    ensures { IsOkAnd result.outcome (λ answers. (now : Handle) × Ended (cipher_of A.variant) H.hashing file now commands.now answers
+        × (result.outside ≡ now.outside)) }
 {
     let replies = answer_all::<A, I, R, H>(&mut file, commands, rooms, replies);
     SessionEnd::<I, R, H>::of(Ok(Replies::from_vec(replies)), file.close())

@@ -88,7 +88,8 @@ pub fn stage<A: Algorithm>(header: &Header, plan: &Plan, bytes: &[u8], index: u6
     requires room { length place.old ≡ record_len (shape_of (cipher_of A.variant) header.now) plan.now.size index }
     ensures nonce { take (cipher_of A.variant).nonce_len place.new ≡ take (cipher_of A.variant).nonce_len place.old }
     ensures staged { take (chunk_len header.now.chunk_size plan.now.size index) (drop (cipher_of A.variant).nonce_len place.new)
-        ≡ put_chunk (shape_of (cipher_of A.variant) header.now) plan.now bytes.now index (take (kept_len header.now.chunk_size plan.now (length bytes.now) index) (drop (cipher_of A.variant).nonce_len place.old)) }
+        ≡ put_chunk (shape_of (cipher_of A.variant) header.now) plan.now bytes.now index
+        (take (kept_len header.now.chunk_size plan.now (length bytes.now) index) (drop (cipher_of A.variant).nonce_len place.old)) }
 {
     let kept = kept_of(header, plan, bytes.len(), index);
     let len = chunk_len_at(header, plan.size, index);

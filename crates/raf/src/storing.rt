@@ -78,9 +78,11 @@ fn make_record<A: Algorithm, I: RafIo, R: RafRng, H: MerkleHasher>(
     requires room { length place.old ≡ record_len (shape_of (cipher_of A.variant) header.now) plan.now.size index }
     requires paired { Paired H.hashing parts.old.setting tree.old }
     requires tree_room { HasRoom plan.now.count tree.old }
-    ensures made { OnOk result (place.new ≡ record_for (cipher_of A.variant) (A.key_list chunk_key.now) header.now plan.now bytes.now index (take (cipher_of A.variant).nonce_len place.old)
+    ensures made { OnOk result (place.new ≡ record_for (cipher_of A.variant) (A.key_list chunk_key.now) header.now plan.now bytes.now
+        index (take (cipher_of A.variant).nonce_len place.old)
         (take (kept_len header.now.chunk_size plan.now (length bytes.now) index) (drop (cipher_of A.variant).nonce_len place.old))) }
-    ensures leaf { OnOk result (OfTrees H.hashing parts.old.setting tree.old tree.new (Leafed index (put_chunk (shape_of (cipher_of A.variant) header.now) plan.now bytes.now index
+    ensures leaf { OnOk result (OfTrees H.hashing parts.old.setting tree.old tree.new
+        (Leafed index (put_chunk (shape_of (cipher_of A.variant) header.now) plan.now bytes.now index
         (take (kept_len header.now.chunk_size plan.now (length bytes.now) index) (drop (cipher_of A.variant).nonce_len place.old))))) }
     ensures same { SameTree tree.old tree.new }
     ensures there { OnErr result (HasTree tree.new) }
@@ -116,8 +118,10 @@ fn store_from<A: Algorithm, I: RafIo, R: RafRng, H: MerkleHasher>(
     requires room { length buf.old ≡ (cipher_of A.variant).nonce_len + header.now.chunk_size + tag_len_of header.now.version }
     requires paired { Paired H.hashing parts.old.setting tree.old }
     requires tree_room { HasRoom plan.now.count tree.old }
-    ensures { Puts (cipher_of A.variant) H.hashing (A.key_list chunk_key.now) header.now plan.now bytes.now index (take (cipher_of A.variant).nonce_len buf.old)
-        (take (kept_len header.now.chunk_size plan.now (length bytes.now) index) (drop (cipher_of A.variant).nonce_len buf.old)) parts.old parts.new tree.old tree.new result }
+    ensures { Puts (cipher_of A.variant) H.hashing (A.key_list chunk_key.now) header.now plan.now bytes.now index
+        (take (cipher_of A.variant).nonce_len buf.old)
+        (take (kept_len header.now.chunk_size plan.now (length bytes.now) index) (drop (cipher_of A.variant).nonce_len buf.old)) parts.old
+        parts.new tree.old tree.new result }
 {
     let len = record_len_at::<A>(header, plan.size, index);
     let at = place_of::<A>(header, index);
@@ -144,8 +148,10 @@ fn store<A: Algorithm, I: RafIo, R: RafRng, H: MerkleHasher>(
     requires second_room { length second.old ≡ (cipher_of A.variant).nonce_len + header.now.chunk_size + tag_len_of header.now.version }
     requires paired { Paired H.hashing parts.old.setting tree.old }
     requires tree_room { HasRoom plan.now.count tree.old }
-    ensures puts { Puts (cipher_of A.variant) H.hashing (A.key_list chunk_key.now) header.now plan.now bytes.now index (take (cipher_of A.variant).nonce_len (buffer_of plan.now index first.old second.old))
-        (kept_in (cipher_of A.variant) header.now plan.now (length bytes.now) first.old second.old index) parts.old parts.new tree.old tree.new result }
+    ensures puts { Puts (cipher_of A.variant) H.hashing (A.key_list chunk_key.now) header.now plan.now bytes.now index
+        (take (cipher_of A.variant).nonce_len (buffer_of plan.now index first.old second.old))
+        (kept_in (cipher_of A.variant) header.now plan.now (length bytes.now) first.old second.old index) parts.old parts.new tree.old
+        tree.new result }
     ensures second { index + 1 < plan.now.end → second.new ≡ second.old }
 {
     if index + 1 < plan.end {
@@ -172,8 +178,10 @@ fn store_some<A: Algorithm, I: RafIo, R: RafRng, H: MerkleHasher>(
     requires second_room { length second.old ≡ (cipher_of A.variant).nonce_len + header.now.chunk_size + tag_len_of header.now.version }
     requires paired { Paired H.hashing parts.old.setting tree.old }
     requires tree_room { HasRoom plan.now.count tree.old }
-    ensures { Stores (cipher_of A.variant) H.hashing (A.key_list chunk_key.now) header.now plan.now bytes.now (kept_in (cipher_of A.variant) header.now plan.now (length bytes.now) first.old second.old)
-        (take (cipher_of A.variant).nonce_len (buffer_of plan.now plan.now.first first.old second.old)) parts.old parts.new tree.old tree.new result }
+    ensures { Stores (cipher_of A.variant) H.hashing (A.key_list chunk_key.now) header.now plan.now bytes.now
+        (kept_in (cipher_of A.variant) header.now plan.now (length bytes.now) first.old second.old)
+        (take (cipher_of A.variant).nonce_len (buffer_of plan.now plan.now.first first.old second.old)) parts.old parts.new tree.old
+        tree.new result }
 {
     store::<A, I, R, H>(
         parts, tree, chunk_key, header, plan, bytes, plan.first, first, second,
@@ -204,8 +212,10 @@ pub fn store_touched<A: Algorithm, I: RafIo, R: RafRng, H: MerkleHasher>(
     requires second_room { length second.old ≡ (cipher_of A.variant).nonce_len + header.now.chunk_size + tag_len_of header.now.version }
     requires paired { Paired H.hashing parts.old.setting tree.old }
     requires tree_room { HasRoom plan.now.count tree.old }
-    ensures { Stores (cipher_of A.variant) H.hashing (A.key_list chunk_key.now) header.now plan.now bytes.now (kept_in (cipher_of A.variant) header.now plan.now (length bytes.now) first.old second.old)
-        (take (cipher_of A.variant).nonce_len (buffer_of plan.now plan.now.first first.old second.old)) parts.old parts.new tree.old tree.new result }
+    ensures { Stores (cipher_of A.variant) H.hashing (A.key_list chunk_key.now) header.now plan.now bytes.now
+        (kept_in (cipher_of A.variant) header.now plan.now (length bytes.now) first.old second.old)
+        (take (cipher_of A.variant).nonce_len (buffer_of plan.now plan.now.first first.old second.old)) parts.old parts.new tree.old
+        tree.new result }
 {
     if plan.first == plan.end {
         return Ok(());

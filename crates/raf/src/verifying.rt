@@ -1,5 +1,6 @@
 //! The chunks of a file are compared with its tree, and the tree is committed to and made anew.
-ghost use Rattle.std.specs.Prelude.{◌≡◌, ◌+◌, ◌^◌, ◌<◌, ◌≤◌, List, ℕ, length, take, drop, is_some, Option, Some, None, IsErrAnd, IfOk, IfErr, OnOk, OnErr, true, false};
+ghost use Rattle.std.specs.Prelude.{◌≡◌, ◌+◌, ◌^◌, ◌<◌, ◌≤◌, List, ℕ, length, take, drop, is_some, Option, Some, None, IsErrAnd, IfOk};
+ghost use Rattle.std.specs.Prelude.{IfErr, OnOk, OnErr, true, false};
 ghost use Rattle.raf_tree.specs.Kept.{Kept};
 ghost use Rattle.raf_format.specs.Cipher.{cipher_of};
 ghost use Rattle.raf_format.specs.File.{chunk_count, chunk_len};
@@ -91,7 +92,8 @@ pub fn verify_file<A: Algorithm, I: RafIo, R: RafRng, H: MerkleHasher>(
 ) -> Result<Option<u64>, Error>
     requires unmarked { file.old.broken ≡ false }
     requires paired { Paired H.hashing parts.old.setting file.old.tree }
-    ensures went { Went (cipher_of A.variant) H.hashing (handle_of parts.old (A.key_list file.old.key) file.old.header file.old.tree file.old.broken)
+    ensures went { Went (cipher_of A.variant) H.hashing
+        (handle_of parts.old (A.key_list file.old.key) file.old.header file.old.tree file.old.broken)
         (handle_of parts.new (A.key_list file.new.key) file.new.header file.new.tree file.new.broken) Command.Verify (verify_reply result) }
     ensures paired { Paired H.hashing parts.new.setting file.new.tree }
 {
@@ -119,7 +121,8 @@ pub fn commit_file<A: Algorithm, I: RafIo, R: RafRng, H: MerkleHasher>(
         Went (cipher_of A.variant) H.hashing (handle_of parts.old (A.key_list file.now.key) file.now.header file.now.tree file.now.broken)
         (handle_of parts.new (A.key_list file.now.key) file.now.header file.now.tree file.now.broken) Command.Commitment
         (commitment_reply (take (hash_len_of H.hashing parts.old.setting) out.new) result) }
-    ensures short { length out.old < hash_len_of H.hashing parts.old.setting → IsErrAnd result (λ e. kind_of e ≡ ErrorKind.InvalidArgument Reason.CommitmentBuffer) × (parts.new ≡ parts.old) }
+    ensures short { length out.old < hash_len_of H.hashing parts.old.setting
+        → IsErrAnd result (λ e. kind_of e ≡ ErrorKind.InvalidArgument Reason.CommitmentBuffer) × (parts.new ≡ parts.old) }
     ensures rest { drop (hash_len_of H.hashing parts.old.setting) out.new ≡ drop (hash_len_of H.hashing parts.old.setting) out.old }
     ensures paired { Paired H.hashing parts.new.setting file.now.tree }
 {
@@ -141,7 +144,8 @@ pub fn rebuild_file<A: Algorithm, I: RafIo, R: RafRng, H: MerkleHasher>(
 ) -> Result<(), Error>
     requires unmarked { file.old.broken ≡ false }
     requires paired { Paired H.hashing parts.old.setting file.old.tree }
-    ensures went { Went (cipher_of A.variant) H.hashing (handle_of parts.old (A.key_list file.old.key) file.old.header file.old.tree file.old.broken)
+    ensures went { Went (cipher_of A.variant) H.hashing
+        (handle_of parts.old (A.key_list file.old.key) file.old.header file.old.tree file.old.broken)
         (handle_of parts.new (A.key_list file.new.key) file.new.header file.new.tree file.new.broken) Command.Rebuild (done_reply result) }
     ensures paired { Paired H.hashing parts.new.setting file.new.tree }
 {

@@ -1,4 +1,4 @@
-use Rattle.std.proofs.Common.{◌≡◌, List, ℕ, length, sym, ◌∙◌}
+use Rattle.std.proofs.Common.{length, sym}
 use Rattle.raf_format.specs.Cipher.{cipher_of}
 use Rattle.raf_format.proofs.Ciphers.{lawful}
 use Rattle.raf.proofs.WrittenThenRead.{read_written}
