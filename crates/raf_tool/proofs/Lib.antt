@@ -3,3 +3,4 @@ pub mod StreamLemmas
 pub mod PutLemmas
 pub mod RunningLemmas
 pub mod AnswerLemmas
+pub mod OneText

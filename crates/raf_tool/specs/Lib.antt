@@ -3,3 +3,4 @@ pub mod Memory
 pub mod Text
 pub mod Ends
 pub mod Run
+pub mod Laws

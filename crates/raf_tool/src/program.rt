@@ -2,6 +2,7 @@
 ghost use Rattle.std.specs.Prelude.{◌≡◌, ◌+◌, ◌-◌, ◌^◌, List, ℕ, map, string_bytes, length, slice_get};
 ghost use Rattle.raf_tool.specs.Streams.{ConsumesAtMost};
 ghost use Rattle.raf_tool.specs.Text.{Puts};
+ghost use Rattle.raf_tool.specs.Laws.{OneText};
 ghost use Rattle.raf_tool.specs.Run as spec;
 ghost use Rattle.raf_tool.specs.Run.{IsDue, Runs, status_of, text_of, outcome_status, refused_status, last_status, is_form, is_io};
 
@@ -177,6 +178,8 @@ pub fn run<S: Source, K: Sink, I: RafIo>(
         result.status (K.written sink.old) (K.written sink.new) (K.faults sink.old) (K.faults sink.new) }
     ensures most { ConsumesAtMost (S.left source.old) (S.left source.new) (2 ^ 26 + 1) }
     ensures disk { result.disk ≡ disk }
+    // With told random bytes, what is written with status 0 is one function of the script.
+    ensures one_text { OneText }
 {
     let answer = answer(alloc, words, source);
     let status = match put_answer(sink, &answer) {

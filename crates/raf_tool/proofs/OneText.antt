@@ -1,0 +1,220 @@
+-- Two runs of one script that end with status 0 have the same replies and leave the same storage, where the random bytes are told.
+use Rattle.std.proofs.Common.{◌≡◌, ℕ, ◌-◌, List, [], ◌∷◌, ◌++◌, length, take, drop, Option, Some, None, Result, Ok, Err, refl, sym, ap, ◌∙◌, arith, subst, inl, inr}
+use Rattle.std.specs.Prelude.{◌⊎◌, IfOk, slice_get}
+use Rattle.std.proofs.Math.Seq.{take-append_seam}
+use Rattle.std.proofs.lemmas.List.{drop_at, length-append}
+use Rattle.raf_format.specs.Cipher.{IsLawful}
+use Rattle.raf_format.specs.Numbers.{variant_of}
+use Rattle.raf_format.specs.Header.{sealed_header}
+use Rattle.raf_format.specs.File.{File}
+use Rattle.raf_format.specs.declared.header.Header.{Header}
+use Rattle.raf_format.proofs.Ciphers.{lawful}
+use Rattle.raf_format.proofs.Opened.{opens_one}
+use Rattle.raf_io.specs.Kinds.{kind_of}
+use Rattle.raf_io.specs.Source.{Takes}
+use Rattle.raf_io.specs.declared.errors.Error.{Error}
+use Rattle.raf_io.specs.declared.errors.ErrorKind.{ErrorKind}
+use Rattle.raf_io.specs.declared.errors.ErrorKind.TheVariants.{Io, InvalidArgument, AuthenticationFailed, AlreadyExists, NotFound, Overflow, MerkleNotEnabled, CorruptedChunk, Rng, Hash, Broken, OutOfMemory}
+use Rattle.raf_tree.specs.Hashing.{Hashing}
+use Rattle.raf.specs.Apply.{apply}
+use Rattle.raf.specs.Due.{Due, Answers}
+use Rattle.raf.specs.Due.Due.{Exactly, Merkle}
+use Rattle.raf.specs.Image.{traced, asked_in}
+use Rattle.raf.specs.Outside.{Outside, Caused}
+use Rattle.raf.specs.Opening.{Settings, Made}
+use Rattle.raf.specs.Handle.{Handle}
+use Rattle.raf.specs.Session.{TreeDecides, AllAnswer, Whole, Faulted, Answered}
+use Rattle.raf.specs.Session as session
+use Rattle.raf.specs.declared.command.Command.{Command}
+use Rattle.raf.specs.declared.command.Reply.{Reply}
+use Rattle.raf.specs.declared.command.Reply.TheVariants.{Refused}
+use Rattle.raf_script.specs.declared.script.Start.{Start}
+use Rattle.raf_script.specs.declared.script.Start.TheVariants.{Storage, Create}
+use Rattle.raf_tool.specs.Ends.{Ground, BuilderOf, Served, ServedAnew, RefusedAnew, EndsOn, ground_of, told_by, over_memory, over_file}
+use Rattle.raf_tool.specs.Text.{end_text}
+use Rattle.raf_tool.specs.Run.{outcome_status, last_status, refused_status}
+use Rattle.raf_tool.specs.Laws.{OneText}
+use Rattle.raf_tool.specs.declared.answer.End.{End}
+
+-- ---- the replies that are due are those of one list
+
+answer_one : (D : Reply → Type 0) → ((r s : Reply) → D r → D s → r ≡ s) → (due : Due) (r s : Reply) → Answers D due r → Answers D due s → r ≡ s
+answer_one D one (Exactly this) r s p q = p ∙ sym q
+answer_one D one Merkle r s p q = one r s p q
+
+tree_one : (E : List ℕ → Hashing) (setting : Option (List ℕ)) (most : Option ℕ) (F : File) (c : Command) (r s : Reply) → TreeDecides E setting most F c r → TreeDecides E setting most F c s → r ≡ s
+tree_one E None most F c r s p q = absurd p
+tree_one E (Some x) None F c r s p q = absurd p
+tree_one E (Some x) (Some most) F c r s p q = p ∙ sym q
+
+replies_one : (G : session.Ground) (F : File) (cs : List Command) (rs ss : List Reply) → AllAnswer G F cs rs → AllAnswer G F cs ss → rs ≡ ss
+replies_one G F [] [] [] p q = refl
+replies_one G F [] [] (s ∷ ss) p q = absurd q
+replies_one G F [] (r ∷ rs) ss p q = absurd p
+replies_one G F (c ∷ cs) [] ss p q = absurd p
+replies_one G F (c ∷ cs) (r ∷ rs) [] p q = absurd q
+replies_one G F (c ∷ cs) (r ∷ rs) (s ∷ ss) p q =
+    let one : r ≡ s = answer_one (TreeDecides G.answers G.setting G.limit F c) (tree_one G.answers G.setting G.limit F c) (apply G.limit F c).0 r s p.0 q.0 in
+    let more : rs ≡ ss = replies_one G (apply G.limit F c).1 cs rs ss p.1 q.1 in
+    λ i. one i ∷ more i
+
+-- ---- the random bytes that were taken stood in front
+
+taken : (bytes got : List ℕ) (left : Option (List ℕ)) → Takes (Some bytes) got left → (got ≡ take (length got) bytes) × (left ≡ Some (drop (length got) bytes))
+taken bytes got None t = absurd t
+taken bytes got (Some rest) t = (
+  sym (ap (take (length got)) t ∙ take-append_seam got rest),
+  ap (λ (l : List ℕ). Some l) (sym (ap (drop (length got)) t ∙ drop_at got rest (length got) refl)),
+)
+
+taken_so_many : (n : ℕ) (bytes got : List ℕ) (left : Option (List ℕ)) → length got ≡ n → Takes (Some bytes) got left → (got ≡ take n bytes) × (left ≡ Some (drop n bytes))
+taken_so_many n bytes got left long t = subst (λ (m : ℕ). (got ≡ take m bytes) × (left ≡ Some (drop m bytes))) long (taken bytes got left t)
+
+-- ---- no reply is a fault
+
+behind : {X : Type 0} (xs : List X) (x : X) → slice_get (xs ++ x ∷ []) (length xs) ≡ Some x
+behind [] x = refl
+behind (y ∷ xs) x = behind xs x
+
+last_of : {X : Type 0} (xs : List X) (x : X) → slice_get (xs ++ x ∷ []) (length (xs ++ x ∷ []) - 1) ≡ Some x
+last_of xs x = let place : length (xs ++ x ∷ []) - 1 ≡ length xs = omega (arith, length-append xs (x ∷ [])) in rw place (behind xs x)
+
+fault_told : (kind : ErrorKind) (old new : Outside) → Caused kind old new → last_status (Some (Refused kind)) ≡ 0 → ⊥
+fault_told Io old new caused h = omega (arith, h)
+fault_told Rng old new caused h = omega (arith, h)
+fault_told Hash old new caused h = omega (arith, h)
+fault_told (InvalidArgument reason) old new caused h = caused
+fault_told AuthenticationFailed old new caused h = caused
+fault_told AlreadyExists old new caused h = caused
+fault_told NotFound old new caused h = caused
+fault_told Overflow old new caused h = caused
+fault_told MerkleNotEnabled old new caused h = caused
+fault_told (CorruptedChunk index) old new caused h = caused
+fault_told Broken old new caused h = caused
+fault_told OutOfMemory old new caused h = caused
+
+not_faulted : (G : session.Ground) (F : File) (b : List ℕ) (cs : List Command) (old new : Outside) (rs : List Reply) → Faulted G F b cs old new rs → last_status (slice_get rs (length rs - 1)) ≡ 0 → ⊥
+not_faulted G F b cs old new rs f h =
+    let last : slice_get rs (length rs - 1) ≡ Some (Refused f.kind) = ap (λ (l : List Reply). slice_get l (length l - 1)) f.last ∙ last_of f.answered (Refused f.kind) in
+    fault_told f.kind old new f.cause (ap last_status (sym last) ∙ h)
+
+refusal_told : (kind : ErrorKind) → refused_status kind ≡ 0 → ⊥
+refusal_told Io h = omega (arith, h)
+refusal_told OutOfMemory h = omega (arith, h)
+refusal_told (InvalidArgument reason) h = omega (arith, h)
+refusal_told AuthenticationFailed h = omega (arith, h)
+refusal_told AlreadyExists h = omega (arith, h)
+refusal_told NotFound h = omega (arith, h)
+refusal_told Overflow h = omega (arith, h)
+refusal_told MerkleNotEnabled h = omega (arith, h)
+refusal_told (CorruptedChunk index) h = omega (arith, h)
+refusal_told Rng h = omega (arith, h)
+refusal_told Hash h = omega (arith, h)
+refusal_told Broken h = omega (arith, h)
+
+-- ---- sessions
+
+whole_of : (G : session.Ground) (F : File) (b : List ℕ) (cs : List Command) (old new : Outside) (rs : List Reply) → last_status (slice_get rs (length rs - 1)) ≡ 0
+    → Whole G F b cs old new rs ⊎ Faulted G F b cs old new rs → Whole G F b cs old new rs
+whole_of G F b cs old new rs h (inl w) = w
+whole_of G F b cs old new rs h (inr f) = absurd (not_faulted G F b cs old new rs f h)
+
+whole_one : (G : session.Ground) (F : File) (b : List ℕ) (cs : List Command) (random : List ℕ) (old new old' new' : Outside) (rs ss : List Reply) → old.left ≡ Some random → old'.left ≡ Some random
+    → Whole G F b cs old new rs → Whole G F b cs old' new' ss → (rs ≡ ss) × (new.bytes ≡ new'.bytes)
+whole_one G F b cs random old new old' new' rs ss left left' w v =
+    let n = asked_in G.limit F cs in
+    let first = taken_so_many n random w.nonces new.left w.course.drawn (subst (λ (l : Option (List ℕ)). Takes l w.nonces new.left) left w.left) in
+    let second = taken_so_many n random v.nonces new'.left v.course.drawn (subst (λ (l : Option (List ℕ)). Takes l v.nonces new'.left) left' v.left) in
+    let same : w.nonces ≡ v.nonces = first.0 ∙ sym second.0 in (
+      replies_one G F cs rs ss w.course.played v.course.played,
+      w.bytes ∙ ap (λ (nonces : List ℕ). Some (traced G.limit G.cipher G.key F cs nonces b)) same ∙ sym v.bytes,
+    )
+
+answered_one : (G : session.Ground) → IsLawful G.cipher → (b : List ℕ) (cs : List Command) (random : List ℕ) (old new old' new' : Outside) (rs ss : List Reply) → old.left ≡ Some random → old'.left ≡ Some random
+    → last_status (slice_get rs (length rs - 1)) ≡ 0 → last_status (slice_get ss (length ss - 1)) ≡ 0
+    → Answered G b cs old new rs → Answered G b cs old' new' ss → (rs ≡ ss) × (new.bytes ≡ new'.bytes)
+answered_one G law b cs random old new old' new' rs ss left left' h h' p q =
+    let same : q.file ≡ p.file = opens_one G.cipher law G.key b q.file p.file q.opens p.opens in
+    let run = subst (λ (F : File). Whole G F b cs old' new' ss ⊎ Faulted G F b cs old' new' ss) same q.run in
+    whole_one G p.file b cs random old new old' new' rs ss left left' (whole_of G p.file b cs old new rs h p.run) (whole_of G p.file b cs old' new' ss h' run)
+
+-- an end with replies
+record Replied (G : Ground) (b : List ℕ) (cs : List Command) (random : List ℕ) (end : End) : Type 0 where
+  replies : List Reply
+  outcome : end.outcome ≡ Ok replies
+  old : Outside
+  new : Outside
+  left : old.left ≡ Some random
+  quiet : last_status (slice_get replies (length replies - 1)) ≡ 0
+  answered : Answered (record { cipher = G.cipher; answers = G.answers; setting = G.setting; limit = G.most; key = G.key }) b cs old new replies
+  storage : new.bytes ≡ Some end.storage
+
+some_same : {X : Type 0} {x y : X} → ◌≡◌ {A = Option X} (Some x) (Some y) → x ≡ y
+some_same h = (cc)
+
+replied_one : (G : Ground) → IsLawful G.cipher → (b : List ℕ) (cs : List Command) (random : List ℕ) (e f : End) → Replied G b cs random e → Replied G b cs random f → end_text e ≡ end_text f
+replied_one G law b cs random e f p q =
+    let one = answered_one (record { cipher = G.cipher; answers = G.answers; setting = G.setting; limit = G.most; key = G.key }) law b cs random p.old p.new q.old q.new p.replies q.replies p.left q.left p.quiet q.quiet p.answered q.answered in
+    let outcome : e.outcome ≡ f.outcome = p.outcome ∙ ap (λ (rs : List Reply). Ok rs) one.0 ∙ sym q.outcome in
+    let storage : e.storage ≡ f.storage = some_same (sym p.storage ∙ one.1 ∙ q.storage) in
+    λ i. end_text (record { outcome = outcome i; storage = storage i })
+
+-- ---- ends
+
+replied_by : (G : Ground) (b : List ℕ) (cs : List Command) (random : List ℕ) (s : Settings) (old new : Outside) (end : End) (outcome : Result (List Reply) Error) → end.outcome ≡ outcome
+    → s.most ≡ G.most → s.outside.setting ≡ G.setting → old.left ≡ Some random → outcome_status outcome ≡ 0
+    → IfOk outcome (λ replies. Answered (record { cipher = G.cipher; answers = G.answers; setting = s.outside.setting; limit = s.most; key = G.key }) b cs old new replies)
+    → new.bytes ≡ Some end.storage → Replied G b cs random end
+replied_by G b cs random s old new end (Ok rs) is most setting left h answered storage = record {
+  replies = rs;
+  outcome = is;
+  old = old;
+  new = new;
+  left = left;
+  quiet = h;
+  answered = rw (← most, ← setting) answered;
+  storage = storage;
+}
+replied_by G b cs random s old new end (Err e) is most setting left h answered storage = absurd (refusal_told (kind_of e) h)
+
+served_replied : (G : Ground) (b : List ℕ) (cs : List Command) (random : List ℕ) (s : Settings) (old : Outside) (end : End) → Served G s cs old end → s.most ≡ G.most → s.outside.setting ≡ G.setting
+    → old.bytes ≡ Some b → old.left ≡ Some random → outcome_status end.outcome ≡ 0 → Replied G b cs random end
+served_replied G b cs random s old end p most setting bytes left h =
+    replied_by G b cs random s old p.after end end.outcome refl most setting left h (p.meets.answered b bytes) p.storage
+
+-- a new file, from the random bytes
+record NewFile (G : Ground) (size version : ℕ) (random : List ℕ) (file : Handle) : Type 0 where
+  bytes : file.outside.bytes ≡ Some (sealed_header G.cipher G.key (record { version = version; algorithm = G.cipher.id; chunk_size = size; file_size = 0; id = take 32 random }))
+  left : file.outside.left ≡ Some (drop 32 random)
+
+new_file : (G : Ground) (size version : ℕ) (random : List ℕ) (s : Settings) (file : Handle) → s.chunk_size ≡ size → s.version ≡ version → s.outside.left ≡ Some random
+    → Made G.cipher G.answers G.key s (over_memory [] s.outside) file → NewFile G size version random file
+new_file G size version random s file is_size is_version left made =
+    let held = (made.holds [] refl).1 in
+    let drawn = taken_so_many 32 random file.header.id file.outside.left held.is_file.says.fields.id (subst (λ (l : Option (List ℕ)). Takes l file.header.id file.outside.left) left made.taken) in
+    let header : file.header ≡ record { version = version; algorithm = G.cipher.id; chunk_size = size; file_size = 0; id = take 32 random } =
+    made.header ∙ (λ i. record { version = is_version i; algorithm = G.cipher.id; chunk_size = is_size i; file_size = 0; id = drawn.0 i }) in
+    record { bytes = made.bytes [] refl ∙ ap (λ (h : Header). Some (sealed_header G.cipher G.key h)) header; left = drawn.1 }
+
+anew_replied : (G : Ground) (size version : ℕ) (cs : List Command) (random : List ℕ) (s : Settings) (end : End) → G.random ≡ Some random → BuilderOf G s → s.chunk_size ≡ size → s.version ≡ version
+    → outcome_status end.outcome ≡ 0 → ServedAnew G s cs end ⊎ RefusedAnew G s end
+    → Replied G (sealed_header G.cipher G.key (record { version = version; algorithm = G.cipher.id; chunk_size = size; file_size = 0; id = take 32 random })) cs (drop 32 random) end
+anew_replied G size version cs random s end told builder is_size is_version h (inl p) =
+    let file = new_file G size version random s p.file is_size is_version (builder.left ∙ told) p.made in
+    served_replied G (sealed_header G.cipher G.key (record { version = version; algorithm = G.cipher.id; chunk_size = size; file_size = 0; id = take 32 random })) cs (drop 32 random) p.opener
+    (over_file p.file.outside p.opener.outside) end p.served p.hasher.most p.hasher.setting file.bytes (p.left ∙ file.left) h
+anew_replied G size version cs random s end told builder is_size is_version h (inr p) = absurd (refusal_told (kind_of p.error) (ap outcome_status (sym p.outcome) ∙ h))
+
+ends_one : (G : Ground) → IsLawful G.cipher → (start : Start) (cs : List Command) (random : List ℕ) (e f : End) → G.random ≡ Some random → EndsOn G start cs e → EndsOn G start cs f
+    → outcome_status e.outcome ≡ 0 → outcome_status f.outcome ≡ 0 → end_text e ≡ end_text f
+ends_one G law (Storage b) cs random e f told p q h k =
+    replied_one G law b cs random e f
+    (served_replied G b cs random p.0 (over_memory b p.0.outside) e p.2 p.1.most p.1.setting refl (p.1.left ∙ told) h)
+    (served_replied G b cs random q.0 (over_memory b q.0.outside) f q.2 q.1.most q.1.setting refl (q.1.left ∙ told) k)
+ends_one G law (Create size v) cs random e f told p q h k =
+    replied_one G law _ cs (drop 32 random) e f
+    (anew_replied G size _ cs random p.0 e told p.1 p.2 p.3 h p.4)
+    (anew_replied G size _ cs random q.0 f told q.1 q.2 q.3 k q.4)
+
+pub one_text : OneText
+one_text s bytes e f random p q h k = ends_one (ground_of s) (lawful (variant_of s.algorithm)) s.start s.commands bytes e f (ap told_by random) p q h k

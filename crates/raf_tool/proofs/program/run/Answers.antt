@@ -1,0 +1,5 @@
+use Rattle.raf_tool.proofs.OneText.{one_text}
+use Rattle.raf_tool.proofs.program.run.Goals as goal
+
+pub returns-clause-one_text : goal.returns-clause-one_text
+returns-clause-one_text g c = one_text
