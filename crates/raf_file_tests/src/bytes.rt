@@ -30,7 +30,7 @@ pub type Plain<A> = Raf<A, MemIo, VecRng, NoMerkle>;
 pub fn text_of(alloc: Global, len: usize) -> Result<Vec<u8>, AllocError> {
     let mut text = Vec::new(alloc);
     for i in 0..len {
-        text.push((i as u8).wrapping_mul(7).wrapping_add(2))?;
+        text.push(((i % 256) as u8).wrapping_mul(7).wrapping_add(2))?;
     }
     Ok(text)
 }

@@ -7,8 +7,14 @@ mod bytes;
 #[cfg(test)]
 mod damage;
 #[cfg(test)]
+mod faults;
+#[cfg(test)]
 mod figures;
 #[cfg(test)]
 mod plain;
 #[cfg(test)]
 mod reading;
+#[cfg(test)]
+mod sessions;
+#[cfg(test)]
+mod trees;
