@@ -76,11 +76,12 @@ over_memory bytes o = over_storage (Some bytes) (Some []) 0 0 0 0 0 o
 abbrev pub over_file : Outside → Outside → Outside
 over_file file o = over_storage file.bytes file.durable file.io_faults file.reach file.traffic file.changes file.strays o
 
--- a session by a builder, over this storage, may end so: its outcome meets what is proved of sessions, and these are the bytes that the
--- storage was handed back with
+-- a session by a builder, over this storage, may end so: its outcome meets what is proved of sessions, no hasher has failed, and these are
+-- the bytes that the storage was handed back with
 pub record Served (G : Ground) (b : Settings) (commands : List Command) (before : Outside) (end : End) : Type 0 where
   pub after : Outside
   pub meets : Meets G.cipher G.answers G.key b commands before after end.outcome
+  pub hash : after.hash_faults ≡ 0
   pub storage : after.bytes ≡ Some end.storage
 
 -- a file was made, and a session served on its storage, with what its random source had left
@@ -101,6 +102,7 @@ pub record RefusedAnew (G : Ground) (b : Settings) (end : End) : Type 0 where
   pub error : Error
   pub outcome : end.outcome ≡ Err error
   pub refused : NotMade G.answers b (over_memory [] b.outside) after (kind_of error)
+  pub hash : after.hash_faults ≡ 0
   pub storage : after.bytes ≡ Some end.storage
 
 -- how a run of these commands may end: over the storage's bytes, or over those of a file that is made first, unless that is refused

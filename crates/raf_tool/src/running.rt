@@ -32,7 +32,7 @@ fn end_of(outcome: Result<Replies, Error>, io: MemIo) -> End
     }
 }
 
-// A session over a storage.
+// A session over a storage, with a hasher that never fails.
 fn serve<A: Algorithm, R: RafRng, H: MerkleHasher>(
     alloc: Global,
     builder: RafBuilder<A, R, H>,
@@ -40,6 +40,7 @@ fn serve<A: Algorithm, R: RafRng, H: MerkleHasher>(
     key: &A::Key,
     commands: &[Command],
 ) -> End
+    requires sure { (h : H) → H.faults h ≡ 0 }
     ensures { Served (record { cipher = cipher_of A.variant; key = A.key_list key.now; answers = H.hashing; most = builder.most; setting = builder.outside.setting; random = None })
         builder commands.now
         (over_storage (Some (memory_bytes io)) (Some (durable_bytes io)) io.faults io.reach io.traffic io.changes io.strays builder.outside) result }
@@ -69,6 +70,7 @@ fn make<A: Algorithm, R: RafRng, H: MerkleHasher>(
     builder: RafBuilder<A, R, H>,
     key: &A::Key,
 ) -> Result<Parts<MemIo, R, H>, End>
+    requires sure { (h : H) → H.faults h ≡ 0 }
     ensures made { IfOk result (λ parts. (h : Handle) × (parts ≡ h.outside) × Made (cipher_of A.variant) H.hashing (A.key_list key.now) builder (over_memory [] builder.outside) h) }
     ensures refused { IfErr result (RefusedAnew (record { cipher = cipher_of A.variant; key = A.key_list key.now; answers = H.hashing; most = None; setting = None; random = None }) builder) }
 {
@@ -95,6 +97,7 @@ fn run_on<A: Algorithm, R: RafRng, H: MerkleHasher>(
     start: Start,
     commands: &[Command],
 ) -> End
+    requires sure { (h : H) → H.faults h ≡ 0 }
     requires hasher { (opener.most ≡ builder.most) × (opener.outside.setting ≡ builder.outside.setting) }
     requires truncate { builder.truncate ≡ false }
     requires source { (builder.outside.rng_faults ≡ 0) × (builder.outside.asked ≡ 0) × (builder.outside.exact ≡ true) }

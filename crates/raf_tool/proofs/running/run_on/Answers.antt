@@ -19,7 +19,7 @@ returns-in-Ok g c =
     let view = c.parts.view_is in
     let t = c.serve-in-Ok.ensures in
     let over : Served G opener c.args.commands.now (over_file c.in-Ok.parts opener.outside) c.serve-in-Ok.result =
-    subst (λ (p : Outside). Served G opener c.args.commands.now (over_file p opener.outside) c.serve-in-Ok.result) view (record { after = t.after; meets = t.meets; storage = t.storage }) in
+    subst (λ (p : Outside). Served G opener c.args.commands.now (over_file p opener.outside) c.serve-in-Ok.result) view (record { after = t.after; meets = t.meets; hash = t.hash; storage = t.storage }) in
     let file = c.in-Ok.ensures.made in
     rw c.in-Create.is (
       c.version-maker.result,
@@ -43,4 +43,4 @@ returns-in-Err g c =
     let own : BuilderOf G b = record { truncate = c.requires.truncate; most = refl; setting = refl; left = refl; rng_faults = c.requires.source.0; asked = c.requires.source.1; exact = c.requires.source.2 } in
     let set = set_up G b c.version-maker.result c.in-Create.chunk_size c.in-Create.version own made in
     let r = c.in-Err.ensures.refused in
-    rw c.in-Create.is (c.version-maker.result, set.0, set.1, set.2, inr (record { after = r.after; error = r.error; outcome = r.outcome; refused = r.refused; storage = r.storage }))
+    rw c.in-Create.is (c.version-maker.result, set.0, set.1, set.2, inr (record { after = r.after; error = r.error; outcome = r.outcome; refused = r.refused; hash = r.hash; storage = r.storage }))
