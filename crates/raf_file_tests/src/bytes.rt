@@ -123,7 +123,7 @@ pub fn reads<A: Algorithm, H: MerkleHasher>(
     room: usize,
 ) -> Result<(), Fail> {
     let mut buf = filled(alloc, 0xee, room)?;
-    let n = file.read(&mut buf, offset).map_err(|e| e.kind())?;
+    let n = file.read(&mut buf, offset)?;
     assert!(rt;
         n == text.len().saturating_sub(offset as usize).min(room),
         "{n} bytes at {offset}"

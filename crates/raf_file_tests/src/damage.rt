@@ -111,7 +111,7 @@ fn a_damaged_record_is_refused_and_the_other_one_answers(rt: HostRuntime) -> Res
 fn two_chunks(alloc: Global, random: u8) -> Result<Vec<u8>, Fail> {
     let random = filled(alloc, random, 64)?;
     let mut file = create::<Aegis128L>(alloc, Version::V1, 16, random, &SHORT_KEY)?;
-    file.write(&text_of(alloc, 32)?, 0).map_err(|e| e.kind())?;
+    file.write(&text_of(alloc, 32)?, 0)?;
     Ok(file.into_io().into_bytes())
 }
 

@@ -5,6 +5,8 @@
 #[cfg(test)]
 mod bytes;
 #[cfg(test)]
+mod creating;
+#[cfg(test)]
 mod damage;
 #[cfg(test)]
 mod faults;

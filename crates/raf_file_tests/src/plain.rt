@@ -33,7 +33,7 @@ fn fresh<A: Algorithm>(
     key: &A::Key,
 ) -> Result<Plain<A>, Fail> {
     let mut file = create::<A>(alloc, version, 16, filled(alloc, 0x5a, 512)?, key)?;
-    let n = file.write(&text_of(alloc, size)?, 0).map_err(|e| e.kind())?;
+    let n = file.write(&text_of(alloc, size)?, 0)?;
     if n == size {
         Ok(file)
     } else {
@@ -79,7 +79,7 @@ fn writes<A: Algorithm>(
     let mut file = fresh::<A>(alloc, version, size, key)?;
     let mut text = text_of(alloc, size)?;
     let bytes = filled(alloc, 0xc3, len)?;
-    let n = file.write(&bytes, offset as u64).map_err(|e| e.kind())?;
+    let n = file.write(&bytes, offset as u64)?;
     assert!(rt; n == len);
     put(&mut text, offset, &bytes)?;
     holds_again::<A>(rt, alloc, file, &text, over, key)
@@ -97,7 +97,7 @@ fn truncates<A: Algorithm>(
 ) -> Result<(), Fail> {
     let mut file = fresh::<A>(alloc, version, before, key)?;
     let mut text = text_of(alloc, before)?;
-    file.truncate(size as u64).map_err(|e| e.kind())?;
+    file.truncate(size as u64)?;
     text.resize(size, 0)?;
     holds_again::<A>(rt, alloc, file, &text, over, key)
 }

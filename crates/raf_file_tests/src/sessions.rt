@@ -6,7 +6,7 @@ use crate::figures::{AEGIS128L, AEGIS256};
 use crate::plain::put;
 use raf::{
     Aegis128L, Aegis256, Algorithm, Command, Data, ErrorKind, MemIo, NoMerkle, RafBuilder, Reason,
-    Replies, Reply, SessionEnd, VecRng, Version, session,
+    Replies, Reply, SessionEnd, Sha256Hasher, VecRng, Version, session,
 };
 use std::alloc::{AllocError, Global};
 use std::process::Abort;
@@ -111,7 +111,7 @@ fn a_refused_command_is_a_reply_and_the_next_one_runs(rt: HostRuntime) -> Result
         &LONG_KEY,
         &commands,
     );
-    are(&rt, &end.outcome.map_err(|e| e.kind())?, &replies);
+    are(&rt, &end.outcome?, &replies);
     assert!(rt; end.io.bytes().len() == 96 + 32 + 3 + 32);
     assert!(rt; end.io.durable().len() == 96 + 22 + 2 * 64);
     Ok(())
@@ -146,7 +146,7 @@ fn a_damaged_chunk_is_a_reply_and_a_fault_is_the_last_one(rt: HostRuntime) -> Re
         Reply::Refused(ErrorKind::AuthenticationFailed),
         Reply::Size(21),
     ];
-    are(&rt, &end.outcome.map_err(|e| e.kind())?, &replies);
+    are(&rt, &end.outcome?, &replies);
     // The source is dry.
     let storage = storage_of(alloc, &AEGIS128L[0])?;
     let end = run::<Aegis128L>(
@@ -162,7 +162,7 @@ fn a_damaged_chunk_is_a_reply_and_a_fault_is_the_last_one(rt: HostRuntime) -> Re
         Reply::Bytes(data(alloc, &TEXT[16..18])?),
         Reply::Refused(ErrorKind::Rng),
     ];
-    are(&rt, &end.outcome.map_err(|e| e.kind())?, &dry);
+    are(&rt, &end.outcome?, &dry);
     // The fourth call of the storage fails, which is the second record's read; then the third one.
     let storage = storage_of(alloc, &AEGIS128L[0])?;
     let end = run::<Aegis128L>(
@@ -177,7 +177,7 @@ fn a_damaged_chunk_is_a_reply_and_a_fault_is_the_last_one(rt: HostRuntime) -> Re
         Reply::Bytes(data(alloc, &TEXT[..3])?),
         Reply::Refused(ErrorKind::Io),
     ];
-    are(&rt, &end.outcome.map_err(|e| e.kind())?, &second);
+    are(&rt, &end.outcome?, &second);
     let storage = storage_of(alloc, &AEGIS128L[0])?;
     let end = run::<Aegis128L>(
         alloc,
@@ -187,11 +187,7 @@ fn a_damaged_chunk_is_a_reply_and_a_fault_is_the_last_one(rt: HostRuntime) -> Re
         &SHORT_KEY,
         &commands,
     );
-    are(
-        &rt,
-        &end.outcome.map_err(|e| e.kind())?,
-        &[Reply::Refused(ErrorKind::Io)],
-    );
+    are(&rt, &end.outcome?, &[Reply::Refused(ErrorKind::Io)]);
     Ok(())
 }
 
@@ -350,7 +346,7 @@ fn answers<A: Algorithm>(
     let storage = file.into_io().into_bytes();
     let random = filled(alloc, 0x5a, 4096)?;
     let end = run::<A>(alloc, storage, Vec::new(alloc), random, key, &commands);
-    are(rt, &end.outcome.map_err(|e| e.kind())?, &replies);
+    are(rt, &end.outcome?, &replies);
     assert!(rt;
         end.io.faults() == 0 && end.io.strays() == 0,
         "chunks of {chunk_size}"
@@ -374,7 +370,7 @@ fn ten_bytes_of_a_large_file_move_two_records(rt: HostRuntime) -> Result<(), Fai
     let mut text = text_of(alloc, 200000)?;
     let random = filled(alloc, 7, 32 + 4 * 16)?;
     let mut made = create::<Aegis128L>(alloc, Version::V1, 65536, random, &SHORT_KEY)?;
-    made.write(&text, 0).map_err(|e| e.kind())?;
+    made.write(&text, 0)?;
     let storage = made.into_io().into_bytes();
     assert!(rt; storage.len() == 200224);
     // A record has 16 + 65536 + 16 bytes. The opening reads the header's 96.
@@ -383,9 +379,54 @@ fn ten_bytes_of_a_large_file_move_two_records(rt: HostRuntime) -> Result<(), Fai
     assert!(rt; file.storage_mut().traffic() == 96);
     reads::<Aegis128L, NoMerkle>(&rt, alloc, &mut file, &text, 65531, 10)?;
     assert!(rt; file.storage_mut().traffic() == 96 + 2 * 65568);
-    file.write(&[1; 10], 100000).map_err(|e| e.kind())?;
+    file.write(&[1; 10], 100000)?;
     assert!(rt; file.storage_mut().traffic() == 96 + 4 * 65568);
     assert!(rt; file.storage_mut().changes() == 1 && file.storage_mut().reach() == 96 + 2 * 65568);
     put(&mut text, 100000, &[1; 10])?;
     holds::<Aegis128L, NoMerkle>(&rt, alloc, &mut file, &text)
+}
+
+#[test]
+fn a_session_with_a_tree_commits_as_an_independent_program_does(
+    rt: HostRuntime,
+) -> Result<(), Fail> {
+    let alloc = rt.alloc();
+    let four = hex::decode(
+        alloc,
+        "9326dfac17c4fa56e8fb86ed90b69d72c71cc98e34c0bea14e9d926754a74912",
+    )?;
+    let commands = [
+        Command::Verify,
+        Command::Commitment,
+        Command::Write {
+            offset: 64,
+            bytes: data(alloc, &[1])?,
+        },
+        Command::Rebuild,
+        Command::Write {
+            offset: 16,
+            bytes: data(alloc, &TEXT[16..])?,
+        },
+        Command::Commitment,
+    ];
+    let replies = [
+        Reply::Verified(None),
+        Reply::Commitment(data(alloc, &four)?),
+        Reply::Refused(ErrorKind::Overflow),
+        Reply::Done,
+        Reply::Wrote(5),
+        Reply::Commitment(data(alloc, &four)?),
+    ];
+    let io = MemIo::new(alloc, storage_of(alloc, &AEGIS128L[0])?, Vec::new(alloc));
+    let rng = VecRng::new(filled(alloc, 7, 16)?);
+    let builder = RafBuilder::<Aegis128L, VecRng, NoMerkle>::new(rng).merkle::<Sha256Hasher>(
+        Sha256Hasher::new(),
+        4,
+    );
+    let end = session::<Aegis128L, MemIo, VecRng, Sha256Hasher>(
+        alloc, builder, io, &SHORT_KEY, &commands,
+    );
+    are(&rt, &end.outcome?, &replies);
+    assert!(rt; end.hasher.is_some());
+    Ok(())
 }
