@@ -4,3 +4,4 @@ pub mod PutLemmas
 pub mod RunningLemmas
 pub mod AnswerLemmas
 pub mod OneText
+pub mod Completeness

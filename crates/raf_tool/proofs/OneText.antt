@@ -67,7 +67,7 @@ taken bytes got (Some rest) t = (
   ap (λ (l : List ℕ). Some l) (sym (ap (drop (length got)) t ∙ drop_at got rest (length got) refl)),
 )
 
-taken_so_many : (n : ℕ) (bytes got : List ℕ) (left : Option (List ℕ)) → length got ≡ n → Takes (Some bytes) got left → (got ≡ take n bytes) × (left ≡ Some (drop n bytes))
+pub taken_so_many : (n : ℕ) (bytes got : List ℕ) (left : Option (List ℕ)) → length got ≡ n → Takes (Some bytes) got left → (got ≡ take n bytes) × (left ≡ Some (drop n bytes))
 taken_so_many n bytes got left long t = subst (λ (m : ℕ). (got ≡ take m bytes) × (left ≡ Some (drop m bytes))) long (taken bytes got left t)
 
 -- ---- no reply is a fault
@@ -76,7 +76,7 @@ behind : {X : Type 0} (xs : List X) (x : X) → slice_get (xs ++ x ∷ []) (leng
 behind [] x = refl
 behind (y ∷ xs) x = behind xs x
 
-last_of : {X : Type 0} (xs : List X) (x : X) → slice_get (xs ++ x ∷ []) (length (xs ++ x ∷ []) - 1) ≡ Some x
+pub last_of : {X : Type 0} (xs : List X) (x : X) → slice_get (xs ++ x ∷ []) (length (xs ++ x ∷ []) - 1) ≡ Some x
 last_of xs x = let place : length (xs ++ x ∷ []) - 1 ≡ length xs = omega (arith, length-append xs (x ∷ [])) in rw place (behind xs x)
 
 fault_told : (kind : ErrorKind) (old new : Outside) → Caused kind old new → last_status (Some (Refused kind)) ≡ 0 → ⊥
@@ -183,11 +183,11 @@ served_replied G b cs random s old end p most setting bytes left h =
     replied_by G b cs random s old p.after end end.outcome refl most setting left h (p.meets.answered b bytes) p.storage
 
 -- a new file, from the random bytes
-record NewFile (G : Ground) (size version : ℕ) (random : List ℕ) (file : Handle) : Type 0 where
-  bytes : file.outside.bytes ≡ Some (sealed_header G.cipher G.key (record { version = version; algorithm = G.cipher.id; chunk_size = size; file_size = 0; id = take 32 random }))
-  left : file.outside.left ≡ Some (drop 32 random)
+pub record NewFile (G : Ground) (size version : ℕ) (random : List ℕ) (file : Handle) : Type 0 where
+  pub bytes : file.outside.bytes ≡ Some (sealed_header G.cipher G.key (record { version = version; algorithm = G.cipher.id; chunk_size = size; file_size = 0; id = take 32 random }))
+  pub left : file.outside.left ≡ Some (drop 32 random)
 
-new_file : (G : Ground) (size version : ℕ) (random : List ℕ) (s : Settings) (file : Handle) → s.chunk_size ≡ size → s.version ≡ version → s.outside.left ≡ Some random
+pub new_file : (G : Ground) (size version : ℕ) (random : List ℕ) (s : Settings) (file : Handle) → s.chunk_size ≡ size → s.version ≡ version → s.outside.left ≡ Some random
     → Made G.cipher G.answers G.key s (over_memory [] s.outside) file → NewFile G size version random file
 new_file G size version random s file is_size is_version left made =
     let held = (made.holds [] refl).1 in

@@ -2,7 +2,7 @@
 ghost use Rattle.std.specs.Prelude.{◌≡◌, ◌+◌, ◌-◌, ◌^◌, List, ℕ, map, string_bytes, length, slice_get};
 ghost use Rattle.raf_tool.specs.Streams.{ConsumesAtMost};
 ghost use Rattle.raf_tool.specs.Text.{Puts};
-ghost use Rattle.raf_tool.specs.Laws.{OneText};
+ghost use Rattle.raf_tool.specs.Laws.{OneText, Completes};
 ghost use Rattle.raf_tool.specs.Run as spec;
 ghost use Rattle.raf_tool.specs.Run.{IsDue, Runs, status_of, text_of, outcome_status, refused_status, last_status, is_form, is_io};
 
@@ -180,6 +180,8 @@ pub fn run<S: Source, K: Sink, I: RafIo>(
     ensures disk { result.disk ≡ disk }
     // With told random bytes, what is written with status 0 is one function of the script.
     ensures one_text { OneText }
+    // With told random bytes that are enough, a script whose file is there or can be made ends with status 0, or 7.
+    ensures completes { Completes }
 {
     let answer = answer(alloc, words, source);
     let status = match put_answer(sink, &answer) {
