@@ -12,7 +12,7 @@ use std::test::Fail;
 const OF_CHUNK: [(u64, usize); 2] = [(2, 14), (16, 5)];
 
 // One bit of a byte is turned over.
-fn flip(bytes: &mut Vec<u8>, at: usize) {
+pub fn flip(bytes: &mut Vec<u8>, at: usize) {
     if let Some(byte) = bytes.get_mut(at) {
         *byte ^= 0x10;
     }
@@ -115,6 +115,14 @@ fn two_chunks(alloc: Global, random: u8) -> Result<Vec<u8>, Fail> {
     Ok(file.into_io().into_bytes())
 }
 
+// The bytes of a storage from one index up to another, or all of them where it is shorter.
+fn part(storage: &[u8], from: usize, to: usize) -> &[u8] {
+    match storage.get(from..to) {
+        Some(bytes) => bytes,
+        None => storage,
+    }
+}
+
 // The header of one file and two records of files, in order.
 fn joined(
     alloc: Global,
@@ -135,7 +143,9 @@ fn a_record_fits_no_other_place_and_no_other_file(rt: HostRuntime) -> Result<(),
     let other = two_chunks(alloc, 4)?;
     assert!(rt; own.len() == 192 && other.len() == 192);
     let text = text_of(alloc, 32)?;
-    let (header, first, second) = (&own[..96], &own[96..144], &own[144..]);
+    let header = part(&own, 0, 96);
+    let first = part(&own, 96, 144);
+    let second = part(&own, 144, 192);
     let twice = joined(alloc, header, first, first)?;
     refuses::<Aegis128L>(
         &rt,
@@ -144,7 +154,7 @@ fn a_record_fits_no_other_place_and_no_other_file(rt: HostRuntime) -> Result<(),
         &text,
         1,
     )?;
-    let foreign = joined(alloc, header, &other[96..144], second)?;
+    let foreign = joined(alloc, header, part(&other, 96, 144), second)?;
     refuses::<Aegis128L>(
         &rt,
         alloc,

@@ -16,7 +16,3 @@ mod figures;
 mod plain;
 #[cfg(test)]
 mod reading;
-#[cfg(test)]
-mod sessions;
-#[cfg(test)]
-mod trees;
