@@ -13,3 +13,4 @@ pub mod StreamLemmas
 pub mod FrontLemmas
 pub mod PiecesLemmas
 pub mod StreamsLemmas
+pub mod SwapLemmas

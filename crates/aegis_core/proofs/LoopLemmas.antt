@@ -224,14 +224,14 @@ half_way_long : (from to : List ℕ) (a : ℕ) → a ≤ length from → length 
 half_way_long from to a fits l =
     length-append (take a to) (drop a from) ∙ omega (arith, length-take-le a to (omega arith), length-drop a from)
 
-half_way_front : (from to : List ℕ) (a : ℕ) → a ≤ length to → take a (half_way from to a) ≡ take a to
+pub half_way_front : (from to : List ℕ) (a : ℕ) → a ≤ length to → take a (half_way from to a) ≡ take a to
 half_way_front from to a fits = take_at (take a to) (drop a from) a (length-take-le a to fits)
 
-half_way_back : (from to : List ℕ) (a : ℕ) → a ≤ length to → drop a (half_way from to a) ≡ drop a from
+pub half_way_back : (from to : List ℕ) (a : ℕ) → a ≤ length to → drop a (half_way from to a) ≡ drop a from
 half_way_back from to a fits = drop_at (take a to) (drop a from) a (length-take-le a to fits)
 
 -- the same bytes as if one place were written and read
-half_way_put : (from to ys : List ℕ) (a r : ℕ) → a + r ≤ length from → length to ≡ length from → length ys ≡ r
+pub half_way_put : (from to ys : List ℕ) (a r : ℕ) → a + r ≤ length from → length to ≡ length from → length ys ≡ r
     → put_mid a r (half_way from to a) ys ≡ half_way from (put_mid a r to ys) (a + r)
 half_way_put from to ys a r fits l ly =
     let v : List ℕ = half_way from to a in

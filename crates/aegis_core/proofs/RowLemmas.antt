@@ -77,6 +77,28 @@ four_put k out a b c d h l e =
     let P : LaneCount → Type 0 = λ j. length out ≡ 16 * lane_count j → out ≡ used_bytes j a b c d in
     subst P (sym h) (λ n. sym (take_all 64 out (omega arith)) ∙ e) l
 
+-- ---- and blocks read one after the other
+
+pub one_read : (k : LaneCount) (xs a b c d : List ℕ) → k ≡ One → length xs ≡ 16 * lane_count k → a ≡ take 16 (drop 0 xs) → used_bytes k a b c d ≡ xs
+one_read k xs a b c d h l ea =
+    let P : LaneCount → Type 0 = λ j. length xs ≡ 16 * lane_count j → used_bytes j a b c d ≡ xs in
+    subst P (sym h) (λ n. ea ∙ take_all 16 xs (omega arith)) l
+
+pub two_read : (k : LaneCount) (xs a b c d : List ℕ) → k ≡ Two → length xs ≡ 16 * lane_count k → a ≡ take 16 (drop 0 xs) → b ≡ take 16 (drop 16 xs)
+    → used_bytes k a b c d ≡ xs
+two_read k xs a b c d h l ea eb =
+    let P : LaneCount → Type 0 = λ j. length xs ≡ 16 * lane_count j → used_bytes j a b c d ≡ xs in
+    subst P (sym h) (λ n. ap (λ (v : List ℕ). v ++ b) ea ∙ ap (λ (v : List ℕ). take 16 xs ++ v) eb ∙ sym (take-add 16 16 xs) ∙ take_all 32 xs (omega arith)) l
+
+pub four_read : (k : LaneCount) (xs a b c d : List ℕ) → k ≡ Four → length xs ≡ 16 * lane_count k → a ≡ take 16 (drop 0 xs) → b ≡ take 16 (drop 16 xs)
+    → c ≡ take 16 (drop 32 xs) → d ≡ take 16 (drop 48 xs) → used_bytes k a b c d ≡ xs
+four_read k xs a b c d h l ea eb ec ed =
+    let P : LaneCount → Type 0 = λ j. length xs ≡ 16 * lane_count j → used_bytes j a b c d ≡ xs in
+    let two : a ++ b ≡ take 32 xs = ap (λ (v : List ℕ). v ++ b) ea ∙ ap (λ (v : List ℕ). take 16 xs ++ v) eb ∙ sym (take-add 16 16 xs) in
+    let three : (a ++ b) ++ c ≡ take 48 xs = ap (λ (v : List ℕ). v ++ c) two ∙ ap (λ (v : List ℕ). take 32 xs ++ v) ec ∙ sym (take-add 32 16 xs) in
+    let four : ((a ++ b) ++ c) ++ d ≡ take 64 xs = ap (λ (v : List ℕ). v ++ d) three ∙ ap (λ (v : List ℕ). take 48 xs ++ v) ed ∙ sym (take-add 48 16 xs) in
+    subst P (sym h) (λ n. four ∙ take_all 64 xs (omega arith)) l
+
 both : (xs ks now : List ℕ) (n : ℕ) → length xs ≡ n → length now ≡ length xs → IsAdded xs ks n now → (now ≡ xor_bytes xs ks) × (length ks ≡ length xs)
 both xs ks now n lx ln h = (added_all xs ks now n lx ln h, h.count ∙ sym lx)
 
@@ -149,3 +171,9 @@ halves_summed from old j k x y h lf lo ex lj ey =
     let ey2 : y ≡ xor_bytes (drop h from) k = ey ∙ ap (λ (v : List ℕ). xor_bytes v k) (take_rest from h) in
     halves_put old x y h lo lx ∙ ap (λ (v : List ℕ). v ++ y) ex ∙ ap (λ (v : List ℕ). xor_bytes (take h from) j ++ v) ey2
     ∙ sym (on_bytes-append _ (take h from) (drop h from) j k (sym lj)) ∙ ap (λ (v : List ℕ). xor_bytes v (j ++ k)) (take-append-drop h from)
+
+pub halves_read : (from to x y : List ℕ) (h : ℕ) → length from ≡ h + h → length to ≡ h + h → x ≡ take h to → y ≡ take (length to - h) (drop h to)
+    → put_mid h (length (x ++ drop h from) - h) (x ++ drop h from) y ≡ to
+halves_read from to x y h lf lt ex ey =
+    let lx : length x ≡ h = ap length ex ∙ length-take-le h to (omega arith) in
+    halves_put from x y h lf lx ∙ ap (λ (v : List ℕ). v ++ y) ex ∙ ap (λ (v : List ℕ). take h to ++ v) (ey ∙ take_rest to h) ∙ take-append-drop h to

@@ -48,6 +48,29 @@ fn decrypt_all_into<S: LaneState>(state: &mut S, c: &[u8], m: &mut [u8])
     decrypt_tail(state, rest);
 }
 
+// Decrypts `c` into `m`, which has as many bytes, and whose old bytes go to `c`.
+fn decrypt_all_swapping<S: LaneState>(state: &mut S, c: &mut [u8], m: &mut [u8])
+    requires { length m.old ≡ length c.old }
+    ensures same { S.family state.new ≡ S.family state.old }
+    ensures rate { 0 < (S.family state.old).rate }
+    ensures text { c.old ≡ cipher_text (S.family state.old) (S.lanes state.old) m.new }
+    ensures updated { S.lanes state.new ≡ absorbed (S.family state.old) (S.lanes state.old) m.new }
+    ensures swapped { c.new ≡ m.old }
+{
+    let rate = state.rate();
+    let whole = c.len() / rate;
+    'each: for i in 0..whole {
+        state.decrypt_swapping(
+            &mut c[i * rate..i * rate + rate],
+            &mut m[i * rate..i * rate + rate],
+        );
+    }
+    let from = &mut c[whole * rate..];
+    let to = &mut m[whole * rate..];
+    from.swap_with_slice(to);
+    decrypt_tail(state, to);
+}
+
 /// Seals `m` into `c` and `tag` under a key and a nonce, on lanes that are not started.
 pub(crate) fn seal_lanes_into<S: LaneState>(
     state: &mut S,
@@ -104,5 +127,41 @@ pub(crate) fn unseal_lanes_into<S: LaneState>(
         return true;
     }
     m.fill(0xaa);
+    false
+}
+
+/// Unseals `c` into `m` under a key and a nonce, on lanes that are not started: whether there is a
+/// message, which then stands in `m`. Else `m` is as it was. `c` has the bytes that `m` had.
+pub(crate) fn unseal_lanes_swapping<S: LaneState>(
+    state: &mut S,
+    key: &[u8],
+    nonce: &[u8],
+    ad: &[u8],
+    c: &mut [u8],
+    tag: &[u8],
+    m: &mut [u8],
+) -> bool
+    requires key { length key.now ≡ S.key_bytes }
+    requires nonce { length nonce.now ≡ S.key_bytes }
+    requires tag_len { (length tag.now ≡ 16) ⊎ (length tag.now ≡ 32) }
+    requires ad_len { length ad.now < 2 ^ 61 }
+    requires c_len { length c.old < 2 ^ 61 }
+    requires room { length m.old ≡ length c.old }
+    ensures message { OnTrue result (sealed_by (S.family state.old) (length tag.now) key.now nonce.now ad.now m.new ≡ (c.old, tag.now)) }
+    ensures none { OnFalse result ((q : List ℕ)
+        → (sealed_by (S.family state.old) (length tag.now) key.now nonce.now ad.now q ≡ (c.old, tag.now)) → ⊥) }
+    ensures stays { OnFalse result (m.new ≡ m.old) }
+    ensures swapped { c.new ≡ m.old }
+{
+    state.start(key, nonce);
+    absorb_all(state, ad);
+    decrypt_all_swapping(state, c, m);
+    let mut buffer = [0u8; 32];
+    let computed = &mut buffer[..tag.len()];
+    state.finalise(8 * ad.len() as u64, 8 * c.len() as u64, computed);
+    if are_same(computed, tag) {
+        return true;
+    }
+    m.copy_from_slice(c);
     false
 }

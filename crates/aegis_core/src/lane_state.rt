@@ -69,6 +69,15 @@ pub trait LaneState: Copy {
         ensures text { to.new ≡ xor_bytes from.now ((family self.old).keystream (lanes self.old)) }
         ensures updated { lanes self.new ≡ (family self.old).update (lanes self.old) to.new };
 
+    /// Decrypts a whole block into another, whose bytes go to the first.
+    fn decrypt_swapping(&mut self, from: &mut [u8], to: &mut [u8])
+        requires from { length from.old ≡ (family self.old).rate }
+        requires to { length to.old ≡ (family self.old).rate }
+        ensures same { family self.new ≡ family self.old }
+        ensures text { to.new ≡ xor_bytes from.old ((family self.old).keystream (lanes self.old)) }
+        ensures updated { lanes self.new ≡ (family self.old).update (lanes self.old) to.new }
+        ensures swapped { from.new ≡ to.old };
+
     /// Overwrites the blocks with zeros.
     fn clear(&mut self)
         ensures { family self.new ≡ family self.old };
