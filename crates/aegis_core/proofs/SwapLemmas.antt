@@ -37,7 +37,7 @@ swap_step from to now m ys n rate k r er ek fits lt en em ey =
     let fits2 : n * r + r ≤ length from = let P : ℕ → Type 0 = λ j. n * j + j ≤ length from in subst P er fits in
     ap (λ (j : ℕ). put_mid (n * rate) j now ys) (ek ∙ er) ∙ ap (λ (j : ℕ). put_mid (n * j) r now ys) er
     ∙ ap (λ (v : List ℕ). put_mid (n * r) r now v)
-        (ey ∙ ap (λ (j : ℕ). take j (drop (n * rate) m)) (ek ∙ er) ∙ ap (λ (j : ℕ). take r (drop (n * j) m)) er)
+    (ey ∙ ap (λ (j : ℕ). take j (drop (n * rate) m)) (ek ∙ er) ∙ ap (λ (j : ℕ). take r (drop (n * j) m)) er)
     ∙ swap_at from to now m n r fits2 lt en em
 
 -- and what is not yet met of the other place stays

@@ -30,7 +30,7 @@ each-preserved g c =
     let read = swap_block c.args.c.now c.args.m.now c.each.c c.each.i c.rate-rate.result _ f.rate rate (omega (arith, c.requires, fits)) i.swapped in
     let text = c.decrypt_swapping.ensures.text ∙ ap (λ (v : List ℕ). xor_bytes v ((g.S.LaneState.family c.each.state).keystream (g.S.LaneState.lanes c.each.state))) read in
     let long = c.decrypt_swapping.auto.to ∙ length-take-le _ (drop (c.each.i * c.rate-rate.result) c.each.m)
-        (omega (arith, lm, fits, length-drop (c.each.i * c.rate-rate.result) c.each.m)) in
+    (omega (arith, lm, fits, length-drop (c.each.i * c.rate-rate.result) c.each.m)) in
     let next = decrypt_into_step f (g.S.LaneState.family c.each.state) s _ _ c.args.c.now c.each.m _ c.each.i c.rate-rate.result _ i.same rate
     back fits lm i.lanes i.text text c.decrypt_swapping.ensures.updated in
     record {
@@ -53,7 +53,7 @@ returns g c =
     let fits = whole_fits c.each.i (length c.args.c.now) f.rate n in
     let fits_to : c.each.i * f.rate ≤ length c.args.m.now = omega (arith, fits, c.requires) in
     let old = c.swap_with_slice.ensures.other_after ∙ rest_at c.each.c c.each.i _ _ _ (sym whole) rate
-        ∙ ap (λ (v : List ℕ). drop (c.each.i * f.rate) v) i.swapped ∙ half_way_back c.args.c.now c.args.m.now (c.each.i * f.rate) fits_to in
+    ∙ ap (λ (v : List ℕ). drop (c.each.i * f.rate) v) i.swapped ∙ half_way_back c.args.c.now c.args.m.now (c.each.i * f.rate) fits_to in
     let other = c.swap_with_slice.ensures.after ∙ rest_at c.each.m c.each.i _ _ _ (sym whole) rate in
     let at = ap (λ (j : ℕ). j * c.rate-rate.result) (sym whole) ∙ ap (λ (j : ℕ). c.each.i * j) rate in
     let end = decrypt_into_end f (g.S.LaneState.family c.each.state) s _ _ c.args.c.now c.each.m _ _ c.each.i _ _ pos i.same n fits (c.each.auto.m ∙ c.requires) i.lanes i.text
