@@ -7,7 +7,7 @@ use Rattle.aegis_core.specs.declared.variant.Variant.{Variant}
 use Rattle.aegis_core.proofs.Laws.{is_sealing}
 use Rattle.raf_format.specs.Cipher.{cipher_of, IsTagLen}
 use Rattle.raf_format.specs.File.{StandsFor, beside, sealed, unsealed}
-use Rattle.raf_format.specs.Record.{Unsealed, middle}
+use Rattle.raf_format.specs.Record.{Released, Unsealed, middle}
 use Rattle.raf_format.proofs.Ciphers.{lawful, seal_is, unseal_is}
 use Rattle.raf_format.proofs.Opened.{stands}
 
@@ -36,6 +36,17 @@ module _ (v : Variant) (t : ℕ) (l : IsTagLen t) (key id r nonce rest mc tag ad
       skipped : drop (length (nonce ++ now)) (nonce ++ (now ++ tag)) ≡ tag
       skipped = ap (λ (x : List ℕ). drop (length (nonce ++ now)) x) (sym (append_assoc nonce now tag)) ∙ drop_at (nonce ++ now) tag (length (nonce ++ now)) refl
 
+  computed : unsealed (cipher_of v) t key id index r ≡ (cipher_of v).unseal t key nonce ad (mc ++ tag)
+  computed = ap (λ (x : List ℕ). (cipher_of v).unseal t key x (beside id index) (drop (cipher_of v).nonce_len r)) front
+      ∙ ap (λ (x : List ℕ). (cipher_of v).unseal t key nonce (beside id index) x) back
+      ∙ ap (λ (x : List ℕ). (cipher_of v).unseal t key nonce x (mc ++ tag)) (sym is_ad)
+
+  answer : (o : Option (List ℕ)) → Unseals v (length tag) key nonce ad mc tag o → StandsFor (cipher_of v) t key id index r o
+  answer o u = subst (λ (x : Option (List ℕ)). StandsFor (cipher_of v) t key id index r x)
+      (computed ∙ unseal_is v t key nonce ad mc tag len
+      ∙ (is_sealing v t l).one_answer key nonce ad mc tag o (subst (λ (k : ℕ). Unseals v k key nonce ad mc tag o) len u))
+      (stands (cipher_of v) (lawful v) t l key id r index)
+
   pub opened_parts : (now : List ℕ) (opens : Bool) → length now ≡ length mc
       → OnTrue opens (Unseals v (length tag) key nonce ad mc tag (Some now)) → OnFalse opens (Unseals v (length tag) key nonce ad mc tag None)
       → OnFalse opens (now ≡ replicate (length mc) 0xaa)
@@ -48,17 +59,6 @@ module _ (v : Variant) (t : ℕ) (l : IsTagLen t) (key id r nonce rest mc tag ad
     tag = tag_is now same ∙ sym (ap (λ (x : List ℕ). drop (length r - t) x) (whole ∙ ap (λ (x : List ℕ). nonce ++ x) cut) ∙ tag_is mc refl);
   }
     where
-      computed : unsealed (cipher_of v) t key id index r ≡ (cipher_of v).unseal t key nonce ad (mc ++ tag)
-      computed = ap (λ (x : List ℕ). (cipher_of v).unseal t key x (beside id index) (drop (cipher_of v).nonce_len r)) front
-          ∙ ap (λ (x : List ℕ). (cipher_of v).unseal t key nonce (beside id index) x) back
-          ∙ ap (λ (x : List ℕ). (cipher_of v).unseal t key nonce x (mc ++ tag)) (sym is_ad)
-
-      answer : (o : Option (List ℕ)) → Unseals v (length tag) key nonce ad mc tag o → StandsFor (cipher_of v) t key id index r o
-      answer o u = subst (λ (x : Option (List ℕ)). StandsFor (cipher_of v) t key id index r x)
-          (computed ∙ unseal_is v t key nonce ad mc tag len
-          ∙ (is_sealing v t l).one_answer key nonce ad mc tag o (subst (λ (k : ℕ). Unseals v k key nonce ad mc tag o) len u))
-          (stands (cipher_of v) (lawful v) t l key id r index)
-
       on_true : (b : Bool) → OnTrue b (Unseals v (length tag) key nonce ad mc tag (Some now)) → OnTrue b (StandsFor (cipher_of v) t key id index r (Some (middle (cipher_of v) t (nonce ++ (now ++ tag)))))
       on_true true u = subst (λ (x : List ℕ). StandsFor (cipher_of v) t key id index r (Some x)) (sym (middle_is now)) (answer (Some now) u)
       on_true false u = u
@@ -73,6 +73,12 @@ module _ (v : Variant) (t : ℕ) (l : IsTagLen t) (key id r nonce rest mc tag ad
           let count : length mc ≡ length r - ((cipher_of v).nonce_len + t) = omega (arith, long) in
           middle_is now ∙ u ∙ ap (λ (k : ℕ). replicate k 0xaa) count
 
+  pub released_parts : (old now : List ℕ) (opens : Bool)
+      → OnTrue opens (Unseals v (length tag) key nonce ad mc tag (Some now)) → OnFalse opens (Unseals v (length tag) key nonce ad mc tag None)
+      → OnFalse opens (now ≡ old) → Released (cipher_of v) t key id index r old now opens
+  released_parts old now true found none stays = record { chunk = answer (Some now) found; none = none; stays = stays }
+  released_parts old now false found none stays = record { chunk = found; none = answer None none; stays = stays }
+
   pub sealed_parts : (text made : List ℕ) → seal v (length tag) key nonce ad mc ≡ (text, made)
       → nonce ++ (text ++ made) ≡ sealed (cipher_of v) t key id index (take (cipher_of v).nonce_len r) (middle (cipher_of v) t r)
   sealed_parts text made is =
@@ -86,3 +92,13 @@ module _ (v : Variant) (t : ℕ) (l : IsTagLen t) (key id r nonce rest mc tag ad
 
       text_is : middle (cipher_of v) t r ≡ mc
       text_is = ap (λ (x : List ℕ). middle (cipher_of v) t x) (whole ∙ ap (λ (x : List ℕ). nonce ++ x) cut) ∙ middle_is mc
+
+  pub made_parts : (m text made : List ℕ) → seal v (length tag) key nonce ad m ≡ (text, made)
+      → nonce ++ (text ++ made) ≡ sealed (cipher_of v) t key id index (take (cipher_of v).nonce_len r) m
+  made_parts m text made is =
+      sym (ap (λ (x : List ℕ). x ++ (cipher_of v).seal t key x (beside id index) m) front
+      ∙ ap (λ (x : List ℕ). nonce ++ (cipher_of v).seal t key nonce x m) (sym is_ad)
+      ∙ ap (λ (x : List ℕ). nonce ++ x) (seal_is v t key nonce ad m ∙ ap (λ (p : List ℕ × List ℕ). p.0 ++ p.1) pair))
+    where
+      pair : seal v t key nonce ad m ≡ (text, made)
+      pair = subst (λ (k : ℕ). seal v k key nonce ad m ≡ (text, made)) len is

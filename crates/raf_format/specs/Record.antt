@@ -16,3 +16,10 @@ pub record Unsealed (C : Cipher) (t : ℕ) (chunk_key id : List ℕ) (index : �
   pub erased : OnFalse opens (middle C t new ≡ replicate (length old - (C.nonce_len + t)) 0xaa)
   pub nonce : take C.nonce_len new ≡ take C.nonce_len old
   pub tag : drop (length old - t) new ≡ drop (length old - t) old
+
+-- a record was looked at, and its chunk asked for in another place: it is the sealed form of the bytes there now, or of none, and then the
+-- place is as it was
+pub record Released (C : Cipher) (t : ℕ) (chunk_key id : List ℕ) (index : ℕ) (r old new : List ℕ) (opens : Bool) : Type 0 where
+  pub chunk : OnTrue opens (StandsFor C t chunk_key id index r (Some new))
+  pub none : OnFalse opens (StandsFor C t chunk_key id index r None)
+  pub stays : OnFalse opens (new ≡ old)

@@ -61,6 +61,42 @@ pub trait Algorithm {
         ensures none { OnFalse result (Unseals variant (length tag.now) (key_list key.now) nonce.now ad.now mc.old tag.now None) }
         ensures erased { OnFalse result (mc.new ≡ replicate (length mc.old) 0xaa) };
 
+    /// Seals `m` into `c`, which has as many bytes, and puts the tag into `tag`.
+    fn seal_into(
+        key: &Self::Key,
+        nonce: &[u8],
+        ad: &[u8],
+        m: &[u8],
+        c: &mut [u8],
+        tag: &mut [u8],
+    )
+        requires nonce { length nonce.now ≡ nonce_len variant }
+        requires tag_len { (length tag.old ≡ 16) ⊎ (length tag.old ≡ 32) }
+        requires ad_len { length ad.now < 2 ^ 61 }
+        requires m_len { length m.now < 2 ^ 61 }
+        requires room { length c.old ≡ length m.now }
+        ensures { seal variant (length tag.old) (key_list key.now) nonce.now ad.now m.now ≡ (c.new, tag.new) };
+
+    /// Unseals `c` into `m`, which has as many bytes: whether there is a message with this cipher text and tag, which then stands in `m`.
+    /// Else `m` is as it was. In both cases `c` has the bytes that `m` had.
+    fn unseal_swapping(
+        key: &Self::Key,
+        nonce: &[u8],
+        ad: &[u8],
+        c: &mut [u8],
+        tag: &[u8],
+        m: &mut [u8],
+    ) -> bool
+        requires nonce { length nonce.now ≡ nonce_len variant }
+        requires tag_len { (length tag.now ≡ 16) ⊎ (length tag.now ≡ 32) }
+        requires ad_len { length ad.now < 2 ^ 61 }
+        requires c_len { length c.old < 2 ^ 61 }
+        requires room { length m.old ≡ length c.old }
+        ensures message { OnTrue result (Unseals variant (length tag.now) (key_list key.now) nonce.now ad.now c.old tag.now (Some m.new)) }
+        ensures none { OnFalse result (Unseals variant (length tag.now) (key_list key.now) nonce.now ad.now c.old tag.now None) }
+        ensures stays { OnFalse result (m.new ≡ m.old) }
+        ensures swapped { c.new ≡ m.old };
+
     ghost numbers: { (ALG_ID ≡ id_of variant) × (NONCE_LEN ≡ nonce_len variant) × (KEY_LEN ≡ key_len variant) };
 }
 

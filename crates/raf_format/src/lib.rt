@@ -27,5 +27,5 @@ pub use marker::{
     Aegis128L, Aegis128X2, Aegis128X4, Aegis256, Aegis256X2, Aegis256X4, Marker, Numbered,
     marker_variants,
 };
-pub use record::{open_record, seal_record};
+pub use record::{open_record, open_record_into, seal_record, seal_record_into};
 pub use version::{Version, tag_len};

@@ -8,7 +8,8 @@ use crate::unprotected;
 use aegis_128::{aegis128l, aegis128x2, aegis128x4};
 use aegis_256::{aegis256, aegis256x2, aegis256x4};
 use aegis_core::{
-    CipherKind, LaneState, SoftLanes128, SoftLanes256, seal_in_place_with, unseal_in_place_with,
+    CipherKind, LaneState, SoftLanes128, SoftLanes256, seal_in_place_with, seal_into_with,
+    unseal_in_place_with, unseal_swapping_with,
 };
 use softaes::{Block, RoundBlock};
 use std::marker::PhantomData;
@@ -148,6 +149,28 @@ impl<K: Numbered<S, KEY_BYTES>, S: LaneState, B: RoundBlock, const KEY_BYTES: us
 
     fn unseal(key: &[u8; KEY_BYTES], nonce: &[u8], ad: &[u8], mc: &mut [u8], tag: &[u8]) -> bool {
         unseal_in_place_with::<B>(K::variant(), key, nonce, ad, mc, tag)
+    }
+
+    fn seal_into(
+        key: &[u8; KEY_BYTES],
+        nonce: &[u8],
+        ad: &[u8],
+        m: &[u8],
+        c: &mut [u8],
+        tag: &mut [u8],
+    ) {
+        seal_into_with::<B>(K::variant(), key, nonce, ad, m, c, tag)
+    }
+
+    fn unseal_swapping(
+        key: &[u8; KEY_BYTES],
+        nonce: &[u8],
+        ad: &[u8],
+        c: &mut [u8],
+        tag: &[u8],
+        m: &mut [u8],
+    ) -> bool {
+        unseal_swapping_with::<B>(K::variant(), key, nonce, ad, c, tag, m)
     }
 }
 
