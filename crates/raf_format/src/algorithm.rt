@@ -62,14 +62,7 @@ pub trait Algorithm {
         ensures erased { OnFalse result (mc.new ≡ replicate (length mc.old) 0xaa) };
 
     /// Seals `m` into `c`, which has as many bytes, and puts the tag into `tag`.
-    fn seal_into(
-        key: &Self::Key,
-        nonce: &[u8],
-        ad: &[u8],
-        m: &[u8],
-        c: &mut [u8],
-        tag: &mut [u8],
-    )
+    fn seal_into(key: &Self::Key, nonce: &[u8], ad: &[u8], m: &[u8], c: &mut [u8], tag: &mut [u8])
         requires nonce { length nonce.now ≡ nonce_len variant }
         requires tag_len { (length tag.old ≡ 16) ⊎ (length tag.old ≡ 32) }
         requires ad_len { length ad.now < 2 ^ 61 }
