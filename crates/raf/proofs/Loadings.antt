@@ -1,8 +1,8 @@
 -- The record of a chunk that was read, or could not be read.
 use Rattle.std.proofs.Common.{◌≡◌, Bool, true, false, ℕ, ◌+◌, ◌≤◌, List, length, take, drop, Option, Some, None, Result, Ok, Err, sym, ◌∙◌, ap, subst, arith}
 use Rattle.raf_format.specs.Cipher.{Cipher}
-use Rattle.std.specs.Result.{IsErrAnd}
-use Rattle.raf_format.specs.File.{chunk_at, shape_of, layout_len, record_start, record_len}
+use Rattle.std.specs.Result.{IsErrAnd, OnOk}
+use Rattle.raf_format.specs.File.{chunk_at, chunk_len, shape_of, layout_len, record_start, record_len}
 use Rattle.raf.specs.Loaded.{Loads}
 use Rattle.raf.specs.Outside.{Outside, Kept, Caused, Moved}
 use Rattle.raf_io.specs.Kinds.{kind_of}
@@ -22,13 +22,13 @@ use Rattle.raf.specs.Outside.{Quiet}
 use Rattle.raf.proofs.Moves.{unopened_io}
 
 -- a read that failed
-pub loads_failed : (C : Cipher) (K : List ℕ) (h : Header) (index : ℕ) (old new : Outside) (after : List ℕ) (r : Result (Unit {0}) Error) (e : Error)
+pub loads_failed : (C : Cipher) (K : List ℕ) (h : Header) (index : ℕ) (old new : Outside) (m : List ℕ) (r : Result (Unit {0}) Error) (e : Error)
     → IsErrAnd r (λ x. x ≡ e) → (kind_of e ≡ Io) × Caused Io old new → Kept old new
     → Moved old new (record_start (shape_of C h) index + record_len (shape_of C h) h.file_size index) (record_len (shape_of C h) h.file_size index) 0 0 0
     → ((b : List ℕ) → old.bytes ≡ Some b → layout_len (shape_of C h) h.file_size ≤ length b → new.strays ≡ old.strays)
-    → Loads C K h index old new after r
-loads_failed C K h index old new after (Ok _) e is why kept moved strays = absurd is
-loads_failed C K h index old new after (Err x) e is why kept moved strays = record {
+    → Loads C K h index old new m r
+loads_failed C K h index old new m (Ok _) e is why kept moved strays = absurd is
+loads_failed C K h index old new m (Err x) e is why kept moved strays = record {
   loaded = λ b tells. tt;
   missing = λ b tells auth. absurd (other (sym why.0 ∙ ap kind_of (sym is) ∙ auth));
   kinds = unopened_io (kind_of x) old new (ap kind_of is ∙ why.0, why.1);
@@ -42,8 +42,8 @@ loads_failed C K h index old new after (Err x) e is why kept moved strays = reco
     other same = cc
 
 -- a record that was read and looked at
-module _ (C : Cipher) (lawful : IsLawful C) (K : List ℕ) (h : Header) (index : ℕ) (old new : Outside) (got after : List ℕ) (t : ℕ)
-    (tag : t ≡ tag_len_of h.version) (long : length got ≡ record_len (shape_of C h) h.file_size index) (longs : length after ≡ length got)
+module _ (C : Cipher) (lawful : IsLawful C) (K : List ℕ) (h : Header) (index : ℕ) (old new : Outside) (got m : List ℕ) (t : ℕ)
+    (tag : t ≡ tag_len_of h.version) (long : length got ≡ record_len (shape_of C h) h.file_size index)
     (reads : ReadsFrom old.bytes (record_start (shape_of C h) index) got) (quiet : Quiet old new) (kept : Kept old new)
     (moved : Moved old new (record_start (shape_of C h) index + record_len (shape_of C h) h.file_size index) (record_len (shape_of C h) h.file_size index) 0 0 0)
     (strays : (b : List ℕ) → old.bytes ≡ Some b → layout_len (shape_of C h) h.file_size ≤ length b → new.strays ≡ old.strays) where
@@ -56,10 +56,9 @@ module _ (C : Cipher) (lawful : IsLawful C) (K : List ℕ) (h : Header) (index :
   answer : (o : Option (List ℕ)) → StandsFor C t K h.id index got o → unsealed C t K h.id index got ≡ o
   answer o stands = one_answer C lawful t (subst IsTagLen (sym tag) (is_tag_len h.version)) K h.id got index o stands
 
-  pub loads_found : (r : Bool) → r ≡ true → OnTrue r (StandsFor C t K h.id index got (Some (middle C t after))) → Loads C K h index old new after (Ok tt)
-  loads_found r is opened = let stands = subst (λ (r : Bool). OnTrue r (StandsFor C t K h.id index got (Some (middle C t after)))) is opened in record {
-    loaded = λ b tells. same b tells ∙ answer (Some (middle C t after)) stands
-        ∙ ap (λ (n : ℕ). Some (take n (drop C.nonce_len after))) (omega (arith, longs, long, tag));
+  pub loads_found : (r : Bool) → r ≡ true → OnTrue r (StandsFor C t K h.id index got (Some m)) → Loads C K h index old new m (Ok tt)
+  loads_found r is opened = let stands = subst (λ (r : Bool). OnTrue r (StandsFor C t K h.id index got (Some m))) is opened in record {
+    loaded = λ b tells. same b tells ∙ answer (Some m) stands;
     missing = λ b tells. tt;
     kinds = tt;
     quiet = quiet;
@@ -68,7 +67,7 @@ module _ (C : Cipher) (lawful : IsLawful C) (K : List ℕ) (h : Header) (index :
     strays = strays;
   }
 
-  pub loads_missing : (r : Bool) → r ≡ false → OnFalse r (StandsFor C t K h.id index got None) → Loads C K h index old new after (Err error.AuthenticationFailed)
+  pub loads_missing : (r : Bool) → r ≡ false → OnFalse r (StandsFor C t K h.id index got None) → Loads C K h index old new m (Err error.AuthenticationFailed)
   loads_missing r is closed = let stands = subst (λ (r : Bool). OnFalse r (StandsFor C t K h.id index got None)) is closed in record {
     loaded = λ b tells. tt;
     missing = λ b tells auth. same b tells ∙ answer None stands;
@@ -78,3 +77,14 @@ module _ (C : Cipher) (lawful : IsLawful C) (K : List ℕ) (h : Header) (index :
     moved = moved;
     strays = strays;
   }
+
+-- the chunk that stands in a record's place
+pub middle_chunk : (C : Cipher) (h : Header) (index t : ℕ) (after : List ℕ) → t ≡ tag_len_of h.version → length after ≡ record_len (shape_of C h) h.file_size index
+    → middle C t after ≡ take (chunk_len h.chunk_size h.file_size index) (drop C.nonce_len after)
+middle_chunk C h index t after tag long = ap (λ (n : ℕ). take n (drop C.nonce_len after)) (omega (arith, long, tag))
+
+-- a refusal that is handed on
+pub loads_handed : (C : Cipher) (K : List ℕ) (h : Header) (index : ℕ) (old new : Outside) (m : List ℕ) (P : Type 0) (r : Result (Unit {0}) Error) (e : Error)
+    → IsErrAnd r (λ x. x ≡ e) → Loads C K h index old new m (Err e) → Loads C K h index old new m r × OnOk r P
+loads_handed C K h index old new m P (Ok _) e is l = absurd is
+loads_handed C K h index old new m P (Err x) e is l = (subst (λ (x : Error). Loads C K h index old new m (Err x)) (sym is) l, tt)

@@ -1,10 +1,13 @@
 -- The part of the data that stands in a chunk.
-use Rattle.std.proofs.Common.{◌≡◌, inl, inr, ℕ, ◌+◌, ◌-◌, ◌<◌, ◌≤◌, min, Bool, true, false, ◌&&◌, cond, List, [], ◌∷◌, ◌++◌, length, take, drop, replicate, get_or, refl, sym, ◌∙◌, ap, arith, length-take, length-drop}
+use Rattle.std.proofs.Common.{◌≡◌, inl, inr, ℕ, ◌+◌, ◌-◌, ◌*◌, ◌<◌, ◌≤◌, min, Bool, true, false, ◌&&◌, cond, List, [], ◌∷◌, ◌++◌, length, take, drop, replicate, get_or, refl, sym, ◌∙◌, ap, arith, length-take, length-drop}
 use Rattle.std.specs.Prelude.{nat_lt, nat_le, slice_index}
 use Rattle.std.proofs.lemmas.List.{get_or-take, get_or-drop, take_all, drop_all, append-nil}
 use Rattle.std.proofs.lemmas.Bool.{cases_lt}
 use Rattle.std.proofs.lemmas.Bool.Decides.{nat_tests}
 use Rattle.raf.specs.Apply.{overlaid}
+use Rattle.raf.specs.Put.{put_chunk}
+use Rattle.raf.specs.declared.planning.Plan.{Plan}
+use Rattle.raf_format.specs.File.{Shape, chunk_len}
 use Rattle.raf_io.specs.Storage.{resized}
 use Rattle.raf_io.proofs.Splices.{length-resized}
 use Rattle.raf.proofs.Overlaid.{byte, overlaid_is}
@@ -90,13 +93,20 @@ module _ (start offset : ℕ) (bytes old : List ℕ) (kept skip from n : ℕ) (l
       ∙ ap (λ (l : List ℕ). take skip zeroed ++ l ++ drop (skip + length l) zeroed) p
       ∙ sym overlaid_there
 
-  -- the data covers the chunk
-  pub covered : (now : List ℕ) → n ≡ length old → now ≡ take n (drop from bytes) → now ≡ overlaid start offset bytes zeroed
-  covered now all is =
-      let none : skip ≡ 0 = omega (arith, all, m, s) in
-      let over : length zeroed ≤ skip + length (take n (drop from bytes)) = omega (arith, same_len, part_len, all) in
-      is
-      ∙ sym (append-nil (take n (drop from bytes)))
-      ∙ ap (λ (l : List ℕ). take n (drop from bytes) ++ l) (sym (drop_all (skip + length (take n (drop from bytes))) zeroed over))
-      ∙ ap (λ (k : ℕ). take k zeroed ++ take n (drop from bytes) ++ drop (skip + length (take n (drop from bytes))) zeroed) (sym none)
-      ∙ sym overlaid_there
+-- the data covers all of the bytes
+pub covers : (start offset : ℕ) (bytes old : List ℕ) → offset ≤ start → start - offset + length old ≤ length bytes
+    → overlaid start offset bytes old ≡ take (length old) (drop (start - offset) bytes)
+covers start offset bytes old le fits =
+    let from : ℕ = start - offset in
+    let part : List ℕ = take (length old) (drop from bytes) in
+    let len : length part ≡ length old = omega (arith, length-take (length old) (drop from bytes), length-drop from bytes) in
+    sym (overlaid_part start offset bytes old 0 from (length old) (omega arith) (omega arith) (omega arith))
+    ∙ overlaid_is 0 part old (omega (arith, len))
+    ∙ ap (λ (l : List ℕ). part ++ l) (drop_all (0 + length part) old (omega (arith, len))) ∙ append-nil part
+
+-- data that covers a chunk whole is what the chunk becomes, whatever is kept
+pub covered : (s : Shape) (p : Plan) (bytes m : List ℕ) (index len cs : ℕ) (kept : List ℕ) → len ≡ chunk_len s.chunk_size p.size index → cs ≡ s.chunk_size
+    → ((old : List ℕ) → length old ≡ len → m ≡ overlaid (index * cs) p.offset bytes old) → m ≡ put_chunk s p bytes index kept
+covered s p bytes m index len cs kept l c is =
+    let old = resized (chunk_len s.chunk_size p.size index) kept in
+    is old (length-resized _ kept ∙ sym l) ∙ ap (λ (k : ℕ). overlaid (index * k) p.offset bytes old) c

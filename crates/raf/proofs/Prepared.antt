@@ -88,7 +88,7 @@ module _ (C : Cipher) (K : List ℕ) (h : Header) (p : Plan) (len : ℕ) (planne
   s = shape_of C h
 
   -- a chunk of which bytes are kept was opened, or not
-  pub readies_loaded : (r : Result (Unit {0}) Error) (index : ℕ) (old new : Outside) (after : List ℕ) → 0 < kept_len h.chunk_size p len index → Loads C K h index old new after r
+  pub readies_loaded : (r : Result (Unit {0}) Error) (index : ℕ) (old new : Outside) (after : List ℕ) → 0 < kept_len h.chunk_size p len index → Loads C K h index old new (take (chunk_len h.chunk_size h.file_size index) (drop C.nonce_len after)) r
       → Readies C K h p index (kept_len h.chunk_size p len index) (needed_record s p len index) old new after r
   readies_loaded r index old new after some l =
       let asked = needed_is s p len index some in

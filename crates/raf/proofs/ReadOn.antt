@@ -66,7 +66,7 @@ read_none C K h offset first old now before same le = record {
   strays = λ b tells long. ap (λ (x : Outside). x.strays) same;
 }
 
-module _ (C : Cipher) (lawful : IsLawful C) (K : List ℕ) (h : Header) (sound : Sound C h) (offset first index : ℕ) (old mid new : Outside) (before now after : List ℕ)
+module _ (C : Cipher) (lawful : IsLawful C) (K : List ℕ) (h : Header) (sound : Sound C h) (offset first index : ℕ) (old mid new : Outside) (before now m : List ℕ)
     (so_far : ReadSoFar C K h offset first index old mid before now) (least : first ≤ index) (lt : index < chunk_count h.chunk_size h.file_size) where
   some : 1 ≤ h.chunk_size
   some = omega (arith, sound.least)
@@ -81,12 +81,11 @@ module _ (C : Cipher) (lawful : IsLawful C) (K : List ℕ) (h : Header) (sound :
       (moved_then old mid new _ _ _ _ _ _ _ _ _ _ so_far.moved moved)
       (omega (arith, place)) (omega (arith, sum_to (record_len (shape_of C h) h.file_size) first index least)) (omega arith) (omega arith) (omega arith)
 
-  pub read_more : (u : Unit {0}) → Loads C K h index mid new after (Ok u) → offset + length before ≤ h.file_size → index * h.chunk_size < offset + length before → offset < (index + 1) * h.chunk_size
-      → (buf : List ℕ) → buf ≡ with_chunk h.chunk_size offset index (take (chunk_len h.chunk_size h.file_size index) (drop C.nonce_len after)) now
+  pub read_more : (u : Unit {0}) → Loads C K h index mid new m (Ok u) → offset + length before ≤ h.file_size → index * h.chunk_size < offset + length before → offset < (index + 1) * h.chunk_size
+      → (buf : List ℕ) → buf ≡ with_chunk h.chunk_size offset index m now
       → ReadSoFar C K h offset first (index + 1) old new before buf
   read_more u loads inside begins ends buf is = record {
     filled = λ b tells long.
-        let m = take (chunk_len h.chunk_size h.file_size index) (drop C.nonce_len after) in
         let opened : chunk_at C K h b index ≡ Some m = loads.loaded b (so_far.kept.bytes ∙ tells) in
         subst (Filled h.chunk_size (chunks_of C K h b) offset first (index + 1) before) (sym is)
         (filled_more h.chunk_size h.file_size offset first index (chunks_of C K h b) before now m (chunks_short C lawful K h b long some) (so_far.filled b tells long)
@@ -97,7 +96,7 @@ module _ (C : Cipher) (lawful : IsLawful C) (K : List ℕ) (h : Header) (sound :
     strays = λ b tells long. loads.strays b (so_far.kept.bytes ∙ tells) long ∙ so_far.strays b tells long;
   }
 
-  pub read_stops : (e : Error) → Loads C K h index mid new after (Err e) → (stop : ℕ) → index < stop → Unread C K h offset first stop old new before now e
+  pub read_stops : (e : Error) → Loads C K h index mid new m (Err e) → (stop : ℕ) → index < stop → Unread C K h offset first stop old new before now e
   read_stops e loads stop below = record {
     index = index;
     among = (least, below);

@@ -26,11 +26,11 @@ Unopened Io old new = Caused Io old new
 Unopened AuthenticationFailed old new = Quiet old new
 Unopened _ old new = ⊥
 
--- the record of a chunk was read into a place and opened there, under the chunk key: the chunk stands behind the nonce
-pub record Loads (C : Cipher) (chunk_key : List ℕ) (h : Header) (index : ℕ) (old new : Outside) (after : List ℕ)
+-- the record of a chunk was read and opened, under the chunk key: this is the chunk
+pub record Loads (C : Cipher) (chunk_key : List ℕ) (h : Header) (index : ℕ) (old new : Outside) (m : List ℕ)
     (result : Result (Unit {0}) Error) : Type 0 where
   pub loaded : (b : List ℕ) → old.bytes ≡ Some b → OnOk result
-      (chunk_at C chunk_key h b index ≡ Some (take (chunk_len h.chunk_size h.file_size index) (drop C.nonce_len after)))
+      (chunk_at C chunk_key h b index ≡ Some m)
   pub missing : (b : List ℕ) → old.bytes ≡ Some b → IfErr result
       (λ e. kind_of e ≡ AuthenticationFailed → chunk_at C chunk_key h b index ≡ None)
   pub kinds : IfErr result (λ e. Unopened (kind_of e) old new)

@@ -1,5 +1,5 @@
 //! The record of a chunk is read and opened.
-ghost use Rattle.std.specs.Prelude.{◌≡◌, ◌+◌, ◌-◌, ◌^◌, ◌<◌, ◌≤◌, List, ℕ, length, take, drop, Some, None, IfErr, OnOk};
+ghost use Rattle.std.specs.Prelude.{◌≡◌, ◌+◌, ◌-◌, ◌^◌, ◌<◌, ◌≤◌, List, ℕ, length, take, drop, Some, None, IfErr, OnOk, OnErr};
 ghost use Rattle.raf_format.specs.Cipher.{cipher_of};
 ghost use Rattle.raf_format.specs.File.{shape_of, chunk_count, chunk_len, record_start, record_len};
 ghost use Rattle.raf_format.specs.Version.{tag_len_of};
@@ -7,7 +7,7 @@ ghost use Rattle.raf.specs.Loaded.{Sound, Loads};
 ghost use Rattle.raf_io.specs.Kinds.{kind_of};
 
 use crate::outside::Parts;
-use raf_format::{Algorithm, Header, nonce_length, open_record};
+use raf_format::{Algorithm, Header, nonce_length, open_record, open_record_into};
 use raf_io::{Error, RafIo, RafRng};
 use raf_tree::MerkleHasher;
 
@@ -52,7 +52,8 @@ fn load_record<A: Algorithm, I: RafIo, R: RafRng, H: MerkleHasher>(
     requires sound { Sound (cipher_of A.variant) header.now }
     requires there { index < chunk_count header.now.chunk_size header.now.file_size }
     requires room { length bytes.old ≡ record_len (shape_of (cipher_of A.variant) header.now) header.now.file_size index }
-    ensures { Loads (cipher_of A.variant) (A.key_list chunk_key.now) header.now index parts.old parts.new bytes.new result }
+    ensures { Loads (cipher_of A.variant) (A.key_list chunk_key.now) header.now index parts.old parts.new
+        (take (chunk_len header.now.chunk_size header.now.file_size index) (drop (cipher_of A.variant).nonce_len bytes.new)) result }
 {
     let start = start_of::<A>(header, index);
     parts.read(bytes, start)?;
@@ -74,11 +75,39 @@ pub fn load<A: Algorithm, I: RafIo, R: RafRng, H: MerkleHasher>(
     requires sound { Sound (cipher_of A.variant) header.now }
     requires there { index < chunk_count header.now.chunk_size header.now.file_size }
     requires room { length buf.old ≡ (cipher_of A.variant).nonce_len + header.now.chunk_size + tag_len_of header.now.version }
-    ensures { Loads (cipher_of A.variant) (A.key_list chunk_key.now) header.now index parts.old parts.new buf.new result }
+    ensures { Loads (cipher_of A.variant) (A.key_list chunk_key.now) header.now index parts.old parts.new
+        (take (chunk_len header.now.chunk_size header.now.file_size index) (drop (cipher_of A.variant).nonce_len buf.new)) result }
 {
     let len = len_of::<A>(header, index);
     let (front, _) = buf.split_at_mut(len);
     load_record::<A, I, R, H>(parts, chunk_key, header, index, front)
+}
+
+/// Opens a chunk into another place, which has its length. A refusal leaves the place as it was. The buffer is used up.
+pub fn load_into<A: Algorithm, I: RafIo, R: RafRng, H: MerkleHasher>(
+    parts: &mut Parts<I, R, H>,
+    chunk_key: &A::Key,
+    header: &Header,
+    index: u64,
+    buf: &mut [u8],
+    chunk: &mut [u8],
+) -> Result<(), Error>
+    requires sound { Sound (cipher_of A.variant) header.now }
+    requires there { index < chunk_count header.now.chunk_size header.now.file_size }
+    requires room { length buf.old ≡ (cipher_of A.variant).nonce_len + header.now.chunk_size + tag_len_of header.now.version }
+    requires place { length chunk.old ≡ chunk_len header.now.chunk_size header.now.file_size index }
+    ensures loads { Loads (cipher_of A.variant) (A.key_list chunk_key.now) header.now index parts.old parts.new chunk.new result }
+    ensures kept { OnErr result (chunk.new ≡ chunk.old) }
+{
+    let len = len_of::<A>(header, index);
+    let start = start_of::<A>(header, index);
+    let (front, _) = buf.split_at_mut(len);
+    parts.read(front, start)?;
+    if open_record_into::<A>(chunk_key, &header.id, index, header.tag_len(), front, chunk) {
+        Ok(())
+    } else {
+        Err(Error::AuthenticationFailed)
+    }
 }
 
 /// The chunk that stands in a record's place behind the nonce.

@@ -11,7 +11,7 @@ ghost use Rattle.raf.specs.Handle.{Holds, handle_of};
 ghost use Rattle.raf.specs.Stepped.{Went, read_reply};
 
 use crate::command::Command;
-use crate::loading::{chunk_len_of, load};
+use crate::loading::{chunk_len_of, load, load_into};
 use crate::opening::OpenFile;
 use crate::outside::Parts;
 use crate::overwriting::overwrite;
@@ -38,7 +38,7 @@ fn copy_chunk<A: Algorithm>(header: &Header, index: u64, record: &[u8], buf: &mu
     overwrite(buf, at, &record[behind..behind + n]);
 }
 
-// Reads the part of a chunk that lies in the range.
+// Reads the part of a chunk that lies in the range. A chunk that lies there whole is opened where it is wanted, and copied nowhere.
 fn read_chunk<A: Algorithm, I: RafIo, R: RafRng, H: MerkleHasher>(
     parts: &mut Parts<I, R, H>,
     chunk_key: &A::Key,
@@ -54,11 +54,17 @@ fn read_chunk<A: Algorithm, I: RafIo, R: RafRng, H: MerkleHasher>(
     requires inside { offset + length buf.old ≤ header.now.file_size }
     requires begins { index * header.now.chunk_size < offset + length buf.old }
     requires ends { offset < (index + 1) * header.now.chunk_size }
-    ensures loads { Loads (cipher_of A.variant) (A.key_list chunk_key.now) header.now index parts.old parts.new record.new result }
-    ensures copied { OnOk result (buf.new ≡ with_chunk header.now.chunk_size offset index
-        (take (chunk_len header.now.chunk_size header.now.file_size index) (drop (cipher_of A.variant).nonce_len record.new)) buf.old) }
+    ensures loads { (m : List ℕ) × (Loads (cipher_of A.variant) (A.key_list chunk_key.now) header.now index parts.old parts.new m result)
+        × (OnOk result (buf.new ≡ with_chunk header.now.chunk_size offset index m buf.old)) }
     ensures kept { OnErr result (buf.new ≡ buf.old) }
 {
+    let start = index * u64::from(header.chunk_size);
+    let len = chunk_len_of(header, index);
+    if offset <= start && len <= buf.len() - (start - offset) as usize {
+        let at = (start - offset) as usize;
+        let place = &mut buf[at..at + len];
+        return load_into::<A, I, R, H>(parts, chunk_key, header, index, record, place);
+    }
     load::<A, I, R, H>(parts, chunk_key, header, index, record)?;
     copy_chunk::<A>(header, index, record, buf, offset);
     Ok(())

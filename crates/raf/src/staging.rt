@@ -1,5 +1,5 @@
 //! The new bytes of a chunk are put together in its record's place.
-ghost use Rattle.std.specs.Prelude.{◌≡◌, ◌+◌, ◌-◌, ◌*◌, ◌^◌, ◌<◌, ◌≤◌, List, ℕ, ◌++◌, length, take, drop, replicate};
+ghost use Rattle.std.specs.Prelude.{◌≡◌, ◌+◌, ◌-◌, ◌*◌, ◌^◌, ◌<◌, ◌≤◌, List, ℕ, ◌++◌, length, take, drop, replicate, IfSome};
 ghost use Rattle.raf_io.specs.Storage.{resized};
 ghost use Rattle.raf_format.specs.Cipher.{cipher_of};
 ghost use Rattle.raf_format.specs.File.{shape_of, chunk_len, record_start, record_len};
@@ -65,6 +65,18 @@ fn clear_from(chunk: &mut [u8], from: usize)
     chunk[from..].fill(0);
 }
 
+/// The part of the data that is a whole chunk of this length from this position on, if it covers it.
+pub fn covering(len: usize, start: u64, offset: u64, bytes: &[u8]) -> Option<&[u8]>
+    ensures len { IfSome result (λ m. length m.now ≡ len) }
+    ensures covers { IfSome result (λ m. (old : List ℕ) → length old ≡ len → m.now ≡ overlaid start offset bytes.now old) }
+{
+    if start < offset || bytes.len() < len || ((bytes.len() - len) as u64) < start - offset {
+        return None;
+    }
+    let from = (start - offset) as usize;
+    Some(&bytes[from..from + len])
+}
+
 // Puts the part of the data that stands in a chunk into it. Of the old chunk the first bytes are kept.
 fn stage_chunk(chunk: &mut [u8], kept: usize, start: u64, offset: u64, bytes: &[u8])
     requires { kept ≤ length chunk.old }
@@ -73,10 +85,6 @@ fn stage_chunk(chunk: &mut [u8], kept: usize, start: u64, offset: u64, bytes: &[
     let skip = offset.saturating_sub(start).min(chunk.len() as u64) as usize;
     let from = start.saturating_sub(offset).min(bytes.len() as u64) as usize;
     let n = (chunk.len() - skip).min(bytes.len() - from);
-    if n == chunk.len() {
-        chunk.copy_from_slice(&bytes[from..from + n]);
-        return;
-    }
     clear_from(chunk, kept);
     overwrite(chunk, skip, &bytes[from..from + n]);
 }

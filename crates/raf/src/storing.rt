@@ -14,8 +14,8 @@ ghost use Rattle.raf.specs.Carry.{SameTree, OfTrees, Leafed, HasTree, Draws, Put
 
 use crate::outside::Parts;
 use crate::planning::Plan;
-use crate::staging::{chunk_len_at, place_of, record_len_at, stage};
-use raf_format::{Algorithm, Header, nonce_length, seal_record};
+use crate::staging::{chunk_len_at, covering, place_of, record_len_at, stage};
+use raf_format::{Algorithm, Header, nonce_length, seal_record, seal_record_into};
 use raf_io::{Error, ErrorKind, RafIo, RafRng};
 use raf_tree::{MerkleHasher, Tree};
 
@@ -62,7 +62,7 @@ pub fn draw<A: Algorithm, I: RafIo, R: RafRng, H: MerkleHasher>(
 }
 
 // Makes a touched chunk's record in its place, which has its length, and puts its leaf. The nonce stands in front, and behind it what is
-// kept of the old chunk.
+// kept of the old chunk. Data that covers the chunk is sealed straight into the record.
 fn make_record<A: Algorithm, I: RafIo, R: RafRng, H: MerkleHasher>(
     parts: &mut Parts<I, R, H>,
     tree: &mut Option<Tree>,
@@ -94,9 +94,15 @@ fn make_record<A: Algorithm, I: RafIo, R: RafRng, H: MerkleHasher>(
     ensures none { tree.old ≡ None → parts.new.calls ≡ parts.old.calls }
     ensures strays { parts.new.strays ≡ parts.old.strays }
 {
+    let len = chunk_len_at(header, plan.size, index);
+    let start = index * u64::from(header.chunk_size);
+    if let Some(chunk) = covering(len, start, plan.offset, bytes) {
+        parts.put_leaf(tree, index, chunk)?;
+        seal_record_into::<A>(chunk_key, &header.id, index, header.tag_len(), chunk, place);
+        return Ok(());
+    }
     stage::<A>(header, plan, bytes, index, place);
     let from = nonce_length::<A>();
-    let len = chunk_len_at(header, plan.size, index);
     parts.put_leaf(tree, index, &place[from..from + len])?;
     seal_record::<A>(chunk_key, &header.id, index, header.tag_len(), place);
     Ok(())

@@ -39,8 +39,8 @@ loop-index-preserved g c =
       room = c.read_chunk.auto.record ∙ c.loop-index.invariant.room;
       len = c.read_chunk.auto.buf ∙ c.loop-index.invariant.len;
       so_far = read_more C (lawful g.A.Algorithm.variant) (g.A.Algorithm.key_list c.args.chunk_key.now) h c.requires.sound c.args.offset (c.args.offset / cs) index c.args.parts.now c.loop-index.parts
-          c.read_chunk.new.parts c.args.buf.now c.loop-index.buf c.read_chunk.new.record c.loop-index.invariant.so_far c.loop-index.auto.index there
-          c.in_ok-read_chunk.field-0 c.in_ok-read_chunk.ensures.loads c.requires.inside begins ends c.read_chunk.new.buf c.in_ok-read_chunk.ensures.copied;
+          c.read_chunk.new.parts c.args.buf.now c.loop-index.buf c.in_ok-read_chunk.ensures.loads.0 c.loop-index.invariant.so_far c.loop-index.auto.index there
+          c.in_ok-read_chunk.field-0 c.in_ok-read_chunk.ensures.loads.1 c.requires.inside begins ends c.read_chunk.new.buf c.in_ok-read_chunk.ensures.loads.2;
     }
 
 pub returns-clause-read : goal.returns-clause-read
@@ -72,7 +72,7 @@ returns-in_err-read_chunk-clause-refused g c =
     let there : index < chunk_count h.chunk_size h.file_size = counts_below h.chunk_size h.file_size index some (omega (arith, begins, c.requires.inside)) in
     let e = c.in_err-read_chunk.field-0.0 in
     let stops = read_stops C (lawful g.A.Algorithm.variant) K h c.requires.sound offset (offset / cs) index c.args.parts.now c.loop-index.parts
-    c.read_chunk.new.parts c.args.buf.now c.loop-index.buf c.read_chunk.new.record c.loop-index.invariant.so_far c.loop-index.auto.index there e c.in_err-read_chunk.ensures.loads
+    c.read_chunk.new.parts c.args.buf.now c.loop-index.buf c.in_err-read_chunk.ensures.loads.0 c.loop-index.invariant.so_far c.loop-index.auto.index there e c.in_err-read_chunk.ensures.loads.1
     ((offset + length c.args.buf.now - 1) / cs + 1) c.loop-index-test.true in
     handed_on c.from_residual.result e (λ (x : Error). Unread C K h offset (offset / h.chunk_size) ((offset + length c.args.buf.now - 1) / h.chunk_size + 1) c.args.parts.now c.read_chunk.new.parts c.args.buf.now c.read_chunk.new.buf x)
     c.from_residual.ensures.1
