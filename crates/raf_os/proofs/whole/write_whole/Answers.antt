@@ -11,5 +11,7 @@ loop-at-preserved g c =
     let n = c.in-Ok.count in
     let rest = whole_drop at c.args.bytes.now in (
       omega (arith, rw rest at c.in-Ok.ensures.bound, length-drop at c.args.bytes.now, c.loop-at.invariant.0),
-      rw (take-add at n c.args.bytes.now) (Appends-trans _ _ _ (take at c.args.bytes.now) (take n (drop at c.args.bytes.now)) c.loop-at.invariant.1 (rw rest at c.in-Ok.ensures.bytes)),
+      rw (take-add at n c.args.bytes.now)
+          (Appends-trans _ _ _ (take at c.args.bytes.now) (take n (drop at c.args.bytes.now)) c.loop-at.invariant.1
+          (rw rest at c.in-Ok.ensures.bytes)),
     )
