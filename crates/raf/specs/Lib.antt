@@ -21,3 +21,6 @@ pub mod Verifying
 pub mod Complete
 pub mod Lending
 pub mod Probe
+pub mod Seek
+pub mod Cursor
+pub mod Paths

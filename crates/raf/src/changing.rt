@@ -1,5 +1,5 @@
 //! Changes of a file: a write and a truncation, each by its plan.
-ghost use Rattle.std.specs.Prelude.{◌≡◌, ◌+◌, List, ℕ, length, false, IfErr, OnErr};
+ghost use Rattle.std.specs.Prelude.{◌≡◌, ◌+◌, ◌^◌, ◌<◌, List, ℕ, length, false, IfOk, IfErr, OnErr};
 ghost use Rattle.std.specs.Option.{option_map};
 ghost use Rattle.raf_format.specs.Cipher.{cipher_of};
 ghost use Rattle.raf.specs.Handle.{handle_of, Paired};
@@ -37,6 +37,8 @@ pub fn write_bytes<A: Algorithm, I: RafIo, R: RafRng, H: MerkleHasher>(
         (handle_of parts.old (A.key_list file.old.key) file.old.header file.old.tree file.old.broken)
         (handle_of parts.new (A.key_list file.new.key) file.new.header file.new.tree file.new.broken) (Command.Write offset buf.now)
         (write_reply result) }
+    ensures count { IfOk result (λ n. n ≡ length buf.now) }
+    ensures end { IfOk result (λ n. offset + n < 2 ^ 64) }
     ensures paired { Paired H.hashing parts.new.setting file.new.tree }
 {
     if buf.is_empty() {

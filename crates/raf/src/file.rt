@@ -1,5 +1,5 @@
 //! An open file, and its calls.
-ghost use Rattle.std.specs.Prelude.{◌≡◌, ◌+◌, ◌<◌, ◌≤◌, List, ℕ, length, take, drop, Some, Option, IfOk, IfErr, OnOk, OnErr, IsErrAnd};
+ghost use Rattle.std.specs.Prelude.{◌≡◌, ◌+◌, ◌^◌, ◌<◌, ◌≤◌, List, ℕ, length, take, drop, Some, Option, IfOk, IfErr, OnOk, OnErr, IsErrAnd};
 ghost use Rattle.std.specs.Prelude.{true, false};
 ghost use Rattle.std.specs.Option.{option_map};
 ghost use Rattle.raf_format.specs.Cipher.{cipher_of};
@@ -82,6 +82,8 @@ impl<A: Algorithm, I: RafIo, R: RafRng, H: MerkleHasher> Raf<A, I, R, H> {
     pub fn read(&mut self, buf: &mut [u8], offset: u64) -> Result<usize, Error>
         ensures stepped { Stepped (cipher_of A.variant) H.hashing self.old self.new (Command.Read offset (length buf.old))
             (read_reply buf.new result) }
+        ensures count { IfOk result (λ n. n ≤ length buf.old) }
+        ensures end { IfOk result (λ n. offset + n < 2 ^ 64) }
         ensures rest { IfOk result (λ n. drop n buf.new ≡ drop n buf.old) }
         ensures refused { (F : File) → Holds (cipher_of A.variant) self.old F → OnErr result (OldOrOpened F offset buf.old buf.new) }
     {
@@ -94,6 +96,8 @@ impl<A: Algorithm, I: RafIo, R: RafRng, H: MerkleHasher> Raf<A, I, R, H> {
     /// Puts these bytes at an offset, all of them. A gap between the size and the offset becomes zeros.
     pub fn write(&mut self, buf: &[u8], offset: u64) -> Result<usize, Error>
         ensures stepped { Stepped (cipher_of A.variant) H.hashing self.old self.new (Command.Write offset buf.now) (write_reply result) }
+        ensures count { IfOk result (λ n. n ≡ length buf.now) }
+        ensures end { IfOk result (λ n. offset + n < 2 ^ 64) }
     {
         if self.file.broken {
             return Err(Error::Broken);

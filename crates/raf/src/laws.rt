@@ -4,11 +4,14 @@ ghost use Rattle.raf_format.specs.Cipher.{cipher_of};
 ghost use Rattle.raf_format.specs.File.{File, file_of};
 ghost use Rattle.raf.specs.Handle.{Holds};
 ghost use Rattle.raf.specs.Complete.{Complete};
+ghost use Rattle.raf.specs.Stepped.{Stepped, write_reply};
 
+use crate::command::Command;
 use crate::file::Raf;
 use raf_format::Algorithm;
 use raf_io::{Error, RafIo, RafRng};
 use raf_tree::MerkleHasher;
+use std::io::SeekFrom;
 
 /// After `storage_mut`: where the storage's first 96 bytes and its length are as before, and key and header are those kept, the handle
 /// holds the file that the bytes are now.
@@ -41,4 +44,17 @@ pub fn write_then_read<A: Algorithm, I: RafIo, R: RafRng, H: MerkleHasher>(
     file.write(bytes, offset)?;
     file.read(buf, offset)?;
     Ok(())
+}
+
+/// Writes bytes at an offset through a cursor: it states what a write at that offset does.
+pub fn write_through<A: Algorithm, I: RafIo, R: RafRng, H: MerkleHasher>(
+    file: &mut Raf<A, I, R, H>,
+    bytes: &[u8],
+    offset: u64,
+) -> Result<usize, Error>
+    ensures { Stepped (cipher_of A.variant) H.hashing file.old file.new (Command.Write offset bytes.now) (write_reply result) }
+{
+    let mut cursor = file.cursor();
+    cursor.seek(SeekFrom::Start(offset))?;
+    cursor.write(bytes)
 }

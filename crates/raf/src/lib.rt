@@ -7,6 +7,7 @@ mod changing;
 mod command;
 mod committing;
 mod creating;
+mod cursor;
 mod data;
 mod file;
 mod growing;
@@ -15,6 +16,7 @@ mod loading;
 mod opening;
 mod outside;
 mod overwriting;
+mod paths;
 mod planning;
 mod preparing;
 mod probing;
@@ -26,15 +28,18 @@ mod verifying;
 
 pub use builder::{OpenError, RafBuilder};
 pub use command::{Command, Replies, Reply};
+pub use cursor::RafCursor;
 pub use data::Data;
 pub use file::Raf;
 pub use laws::{complete, holds_again};
 pub use outside::Parts;
+pub use paths::PathError;
 pub use probing::{derive_key, probe};
 pub use raf_format::{
     Aegis128L, Aegis128X2, Aegis128X4, Aegis256, Aegis256X2, Aegis256X4, Algorithm, AlgorithmId,
     FormatError, Header, RafInfo, Version, unprotected, write_header,
 };
 pub use raf_io::{Error, ErrorKind, MemIo, RafIo, RafRng, Reason, VecRng};
+pub use raf_os::{FileIo, OsRng};
 pub use raf_tree::{FakeHasher, HashFault, MerkleHasher, NoMerkle, Sha256Hasher};
 pub use serving::{SessionEnd, session};

@@ -101,6 +101,7 @@ pub fn plan_write<A: Algorithm>(
     requires most { header.now.chunk_size ≤ 1048576 }
     ensures found { IfSome result (λ p. p ≡ plan_of (shape_of (cipher_of A.variant) header.now) header.now.file_size
         (write_change header.now.file_size offset buf.now)) }
+    ensures end { IfSome result (λ _. offset + length buf.now < 2 ^ 64) }
     ensures fits { IfSome result (λ p. can_have limit (outline (cipher_of A.variant) header.now)
         (max header.now.file_size (offset + length buf.now)) ≡ true) }
     ensures none { IsNone result → can_have limit (outline (cipher_of A.variant) header.now)

@@ -1,6 +1,6 @@
 //! A range of a file is read, chunk by chunk.
-ghost use Rattle.std.specs.Prelude.{◌≡◌, ◌+◌, ◌-◌, ◌*◌, ◌/◌, ◌<◌, ◌≤◌, List, ℕ, length, take, drop, Some, None, IfOk, IfErr, OnOk, OnErr};
-ghost use Rattle.std.specs.Prelude.{false};
+ghost use Rattle.std.specs.Prelude.{◌≡◌, ◌+◌, ◌-◌, ◌*◌, ◌/◌, ◌^◌, ◌<◌, ◌≤◌, List, ℕ, length, take, drop, Some, None};
+ghost use Rattle.std.specs.Prelude.{false, IfOk, IfErr, OnOk, OnErr};
 ghost use Rattle.raf_format.specs.Cipher.{cipher_of};
 ghost use Rattle.raf_format.specs.File.{chunk_count, chunk_len};
 ghost use Rattle.raf_format.specs.Version.{tag_len_of};
@@ -138,6 +138,8 @@ pub fn read_bytes<A: Algorithm, I: RafIo, R: RafRng, H: MerkleHasher>(
         (handle_of parts.old (A.key_list file.old.key) file.old.header file.old.tree file.old.broken)
         (handle_of parts.new (A.key_list file.new.key) file.new.header file.new.tree file.new.broken)
         (Command.Read offset (length buf.old)) (read_reply buf.new result) }
+    ensures count { IfOk result (λ n. n ≤ length buf.old) }
+    ensures end { IfOk result (λ n. offset + n < 2 ^ 64) }
     ensures rest { IfOk result (λ n. drop n buf.new ≡ drop n buf.old) }
     ensures refused { (F : File) → Holds (cipher_of A.variant)
         (handle_of parts.old (A.key_list file.old.key) file.old.header file.old.tree file.old.broken) F
