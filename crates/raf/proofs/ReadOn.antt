@@ -2,7 +2,7 @@
 use Rattle.std.proofs.Common.{◌≡◌, true, ℕ, zero, suc, ◌+◌, ◌-◌, ◌*◌, ◌<◌, ◌≤◌, max, List, [], ◌∷◌, ◌++◌, length, take, drop, Option, Some, Ok, Err, refl, sym, ◌∙◌, ap, subst, arith, add_assoc}
 use Rattle.std.specs.Prelude.{unwrap_or}
 use Rattle.raf_format.specs.Cipher.{Cipher, IsLawful}
-use Rattle.raf_format.specs.File.{shape_of, layout_len, chunk_count, chunk_len, record_start, record_len, chunk_at}
+use Rattle.raf_format.specs.File.{shape_of, layout_len, chunk_count, record_start, record_len, chunk_at}
 use Rattle.raf.specs.Concern.{sum_where}
 use Rattle.raf.specs.Apply.{bytes_between}
 use Rattle.raf.specs.Outside.{Outside, Moved}

@@ -1,7 +1,7 @@
 -- A chunk that is read from the storage and opened (this project's own).
-use Rattle.std.specs.Prelude.{◌≡◌, ℕ, ◌+◌, ◌^◌, ◌<◌, ◌≤◌, List, length, take, drop, Some, None, Result, OnOk, IfErr}
+use Rattle.std.specs.Prelude.{◌≡◌, ℕ, ◌+◌, ◌^◌, ◌<◌, ◌≤◌, List, length, take, Some, None, Result, OnOk, IfErr}
 use Rattle.raf_format.specs.Cipher.{Cipher}
-use Rattle.raf_format.specs.File.{shape_of, layout_len, chunk_len, record_start, record_len, chunk_at}
+use Rattle.raf_format.specs.File.{shape_of, layout_len, record_start, record_len, chunk_at}
 use Rattle.raf.specs.Outside.{Outside, Kept, Quiet, Caused, Moved}
 use Rattle.raf_io.specs.Kinds.{kind_of}
 use Rattle.raf_format.specs.declared.header.Header.{Header}
