@@ -1,2 +1,2 @@
 -- Lemmas of this crate.
-mod Parts
+pub mod Parts

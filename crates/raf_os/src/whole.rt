@@ -7,6 +7,7 @@ use std::io;
 use std::io::{ErrorKind, Read, Write};
 
 /// Fills the buffer. Each call of the reader gives a byte or is the last one.
+#[tactic(auto, using(crate::proofs::Parts::consumed))]
 pub fn read_whole<T: Read>(reader: &mut T, buf: &mut [u8]) -> io::Result<()>
     // Where the reader's bytes are known, the buffer is the next of them.
     ensures { OnOk result (Consumes (T.remaining reader.old) (T.remaining reader.new) buf.new) }
@@ -23,6 +24,7 @@ pub fn read_whole<T: Read>(reader: &mut T, buf: &mut [u8]) -> io::Result<()>
 }
 
 /// Writes all of the bytes. Each call of the writer takes a byte or is the last one.
+#[tactic(auto, using(crate::proofs::Parts::appended))]
 pub fn write_whole<T: Write>(writer: &mut T, bytes: &[u8]) -> io::Result<()>
     // Where the writer's bytes are known, these stand behind them.
     ensures { OnOk result (Appends (T.contents writer.old) (T.contents writer.new) bytes.now) }

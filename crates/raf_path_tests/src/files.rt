@@ -1,68 +1,128 @@
 //! Encrypted files at paths of the host.
-use crate::given::{Nines, nines};
+use crate::given::source_of;
 use aegis::raf::{
-    Aegis256, ErrorKind, FileIo, NoMerkle, OsRng, PathError, Raf, RafIo, RafRng, Reason,
+    Aegis256, Error, ErrorKind, FileIo, NoMerkle, PathError, Raf, RafIo, RafRng, Reason, VecRng,
 };
+use std::alloc::Global;
 use std::fs;
 use std::test::Fail;
 
-type OnDisk = Raf<Aegis256, FileIo, OsRng<Nines>, NoMerkle>;
+/// What a refusal at a path told, how long the file is that came back, if one did, and whether the source gives five bytes more.
+#[derive(Drop)]
+struct Left {
+    kind: ErrorKind,
+    size: Option<u64>,
+    gives: bool,
+}
+
+fn left_of<R: RafRng>(refused: PathError<R>) -> Left {
+    let PathError { error, io, mut rng } = refused;
+    let size = match io {
+        Some(mut io) => io.get_size().ok(),
+        None => None,
+    };
+    Left {
+        kind: error.kind(),
+        size,
+        gives: rng.fill(&mut [0u8; 5]).is_ok(),
+    }
+}
+
+// A call on an open file was refused.
+fn refused(error: Error) -> Left {
+    Left {
+        kind: error.kind(),
+        size: None,
+        gives: false,
+    }
+}
+
+// Makes a file of this text at a path.
+fn make<R: RafRng>(
+    rt: &HostRuntime,
+    alloc: Global,
+    path: &str,
+    key: &[u8; 32],
+    rng: R,
+    text: &[u8],
+) -> Result<u64, Left> {
+    match Raf::<Aegis256, FileIo, R, NoMerkle>::create_file(rt, alloc, path, key, rng) {
+        Ok(mut file) => {
+            if let Err(error) = file.write(text, 0) {
+                return Err(refused(error));
+            }
+            if let Err(error) = file.sync() {
+                return Err(refused(error));
+            }
+            Ok(file.size())
+        }
+        Err(error) => Err(left_of(error)),
+    }
+}
+
+// Opens the file at a path, and reads its front: how many bytes that is.
+fn read<R: RafRng>(
+    rt: &HostRuntime,
+    alloc: Global,
+    path: &str,
+    key: &[u8; 32],
+    rng: R,
+    text: &mut [u8],
+) -> Result<usize, Left> {
+    match Raf::<Aegis256, FileIo, R, NoMerkle>::open_file(rt, alloc, path, key, rng) {
+        Ok(mut file) => match file.read(text, 0) {
+            Ok(count) => Ok(count),
+            Err(error) => Err(refused(error)),
+        },
+        Err(error) => Err(left_of(error)),
+    }
+}
 
 #[test]
 fn a_file_is_made_and_opened_again(rt: HostRuntime) -> Result<(), Fail> {
     let alloc = rt.alloc();
     let path = "hello.raf";
-    let key = OnDisk::derive_master_key(&[0u8; 32], b"my-app/files")?;
-    match OnDisk::create_file(&rt, alloc, path, &key, nines(64)) {
-        Ok(mut file) => {
-            assert!(rt; file.write(b"hello world", 0)? == 11);
-            file.sync()?;
-        }
-        Err(refused) => return Err(Fail::from(refused.error)),
+    let key = Raf::<Aegis256, FileIo, VecRng, NoMerkle>::derive_master_key(
+        &[0u8; 32],
+        b"my-app/files",
+    )?;
+    match make(&rt, alloc, path, &key, source_of(64), b"hello world") {
+        Ok(size) => assert!(rt; size == 11),
+        Err(_) => assert!(rt; false, "a file is made"),
     }
     assert!(rt; fs::read(&rt, path)?.len() == 155);
-    match OnDisk::open_file(&rt, alloc, path, &key, nines(0)) {
-        Ok(mut file) => {
-            let mut text = [0u8; 12];
-            assert!(rt; file.read(&mut text, 0)? == 11);
-            assert!(rt; text == *b"hello world\0");
-        }
-        Err(refused) => return Err(Fail::from(refused.error)),
+    let mut text = [0u8; 12];
+    match read(&rt, alloc, path, &key, source_of(0), &mut text) {
+        Ok(count) => assert!(rt; count == 11 && text == *b"hello world\0"),
+        Err(_) => assert!(rt; false, "a file is opened"),
     }
     // A new file takes the place of the old one.
-    match OnDisk::create_file(&rt, alloc, path, &key, nines(32)) {
-        Ok(file) => assert!(rt; file.into_io().get_size()? == 96),
-        Err(refused) => return Err(Fail::from(refused.error)),
-    }
+    assert!(rt; make(&rt, alloc, path, &key, source_of(32), b"").is_ok());
+    assert!(rt; fs::read(&rt, path)?.len() == 96);
     fs::remove_file(&rt, path)?;
     Ok(())
-}
-
-// The host opened no file, and the call was refused by this kind.
-fn is_unopened(refused: &PathError<OsRng<Nines>>, kind: ErrorKind) -> bool {
-    refused.io.is_none() && refused.error.kind() == kind
 }
 
 #[test]
 fn a_path_without_a_file_is_told(rt: HostRuntime) -> Result<(), Fail> {
     let alloc = rt.alloc();
-    for path in ["missing.raf", "no/such/folder.raf"] {
-        match OnDisk::open_file(&rt, alloc, path, &[0u8; 32], nines(5)) {
+    fs::create_dir(&rt, "folder.raf")?;
+    let rows = [
+        ("missing.raf", ErrorKind::NotFound),
+        ("no/such/folder.raf", ErrorKind::NotFound),
+        ("folder.raf", ErrorKind::Io),
+    ];
+    for (path, kind) in &rows {
+        match read(&rt, alloc, path, &[0u8; 32], source_of(5), &mut []) {
             Ok(_) => assert!(rt; false, "no file"),
-            Err(mut refused) => {
-                assert!(rt; is_unopened(&refused, ErrorKind::NotFound));
-                assert!(rt; refused.rng.fill(&mut [0u8; 5]).is_ok());
-            }
+            Err(left) => assert!(rt; left.kind == *kind && left.size.is_none() && left.gives),
         }
     }
-    match OnDisk::create_file(&rt, alloc, "no/such/folder.raf", &[0u8; 32], nines(0)) {
-        Ok(_) => assert!(rt; false, "no folder"),
-        Err(refused) => assert!(rt; is_unopened(&refused, ErrorKind::NotFound)),
-    }
-    fs::create_dir(&rt, "folder.raf")?;
-    match OnDisk::open_file(&rt, alloc, "folder.raf", &[0u8; 32], nines(0)) {
-        Ok(_) => assert!(rt; false, "a folder"),
-        Err(refused) => assert!(rt; is_unopened(&refused, ErrorKind::Io)),
+    for (path, kind) in rows.get(1..).unwrap_or(&[]) {
+        match make(&rt, alloc, path, &[0u8; 32], source_of(5), b"") {
+            Ok(_) => assert!(rt; false, "no file"),
+            Err(left) => assert!(rt; left.kind == *kind && left.size.is_none() && left.gives),
+        }
     }
     fs::remove_dir(&rt, "folder.raf")?;
     Ok(())
@@ -72,36 +132,26 @@ fn a_path_without_a_file_is_told(rt: HostRuntime) -> Result<(), Fail> {
 fn what_was_opened_comes_back_with_a_refusal(rt: HostRuntime) -> Result<(), Fail> {
     let alloc = rt.alloc();
     let path = "sealed.raf";
-    match OnDisk::create_file(&rt, alloc, path, &[1u8; 32], nines(32)) {
-        Ok(_) => {}
-        Err(refused) => return Err(Fail::from(refused.error)),
-    }
-    match OnDisk::open_file(&rt, alloc, path, &[2u8; 32], nines(5)) {
+    assert!(rt; make(&rt, alloc, path, &[1u8; 32], source_of(32), b"").is_ok());
+    match read(&rt, alloc, path, &[2u8; 32], source_of(5), &mut []) {
         Ok(_) => assert!(rt; false, "another key"),
-        Err(mut refused) => {
-            assert!(rt; refused.error.kind() == ErrorKind::AuthenticationFailed);
-            assert!(rt; refused.rng.fill(&mut [0u8; 5]).is_ok());
-            match refused.io {
-                Some(mut io) => assert!(rt; io.get_size()? == 96),
-                None => assert!(rt; false, "the file comes back"),
-            }
+        Err(left) => {
+            assert!(rt; left.kind == ErrorKind::AuthenticationFailed);
+            assert!(rt; left.size == Some(96) && left.gives);
         }
     }
     fs::write(&rt, path, b"no header")?;
-    match OnDisk::open_file(&rt, alloc, path, &[1u8; 32], nines(0)) {
+    match read(&rt, alloc, path, &[1u8; 32], source_of(0), &mut []) {
         Ok(_) => assert!(rt; false, "no header"),
-        Err(refused) => {
-            assert!(rt; refused.error.kind() == ErrorKind::InvalidArgument(Reason::Header));
-            assert!(rt; refused.io.is_some());
+        Err(left) => {
+            assert!(rt; left.kind == ErrorKind::InvalidArgument(Reason::Header));
+            assert!(rt; left.size == Some(9) && !left.gives);
         }
     }
     // No byte is written before there is an id.
-    match OnDisk::create_file(&rt, alloc, path, &[1u8; 32], nines(31)) {
-        Ok(_) => assert!(rt; false, "a dry source"),
-        Err(refused) => {
-            assert!(rt; refused.error.kind() == ErrorKind::Rng);
-            assert!(rt; refused.io.is_some());
-        }
+    match make(&rt, alloc, path, &[1u8; 32], source_of(31), b"") {
+        Ok(_) => assert!(rt; false, "a source with too few bytes"),
+        Err(left) => assert!(rt; left.kind == ErrorKind::Rng && left.size == Some(9)),
     }
     assert!(rt; fs::read(&rt, path)?.as_slice() == b"no header".as_slice());
     fs::remove_file(&rt, path)?;
@@ -134,7 +184,7 @@ fn a_file_of_the_host_is_a_storage(rt: HostRuntime) -> Result<(), Fail> {
 
 #[test]
 fn a_source_hands_on_what_it_is_given_and_fails_where_it_does(rt: HostRuntime) {
-    let mut source = nines(5);
+    let mut source = source_of(5);
     let mut buf = [0u8; 4];
     assert!(rt; source.fill(&mut buf).is_ok());
     assert!(rt; buf == [9, 9, 9, 9]);

@@ -77,6 +77,6 @@ impl TryRng for Nines {
 }
 
 // A source of a file that gives so many bytes, and then fails.
-pub fn nines(left: usize) -> OsRng<Nines> {
+pub fn source_of(left: usize) -> OsRng<Nines> {
     OsRng::new(Nines { left })
 }
