@@ -1,0 +1,70 @@
+//! Encrypted files: at a path, with a commitment, and by lists of commands.
+use aegis::raf::{
+    Aegis256, Command, Data, FileIo, MemIo, NoMerkle, Raf, RafBuilder, Reply, Sha256Hasher, VecRng,
+    session,
+};
+use std::fs;
+use std::test::Fail;
+
+#[test]
+fn at_a_path(rt: HostRuntime) -> Result<(), Fail> {
+    let (alloc, key, path) = (rt.alloc(), [7; 32], "first_page.raf");
+    let rng = VecRng::new(Vec::from_elem(alloc, 5, 64)?);
+    let mut file = match Raf::<Aegis256, FileIo, _, NoMerkle>::create_file(&rt, alloc, path, &key, rng) {
+        Ok(file) => file,
+        Err(refused) => return Err(refused.error.into()),
+    };
+    file.write(b"entry", 1000)?;
+    file.sync()?;
+    let rng = file.close().rng;
+
+    let mut file = match Raf::<Aegis256, FileIo, _, NoMerkle>::open_file(&rt, alloc, path, &key, rng) {
+        Ok(file) => file,
+        Err(refused) => return Err(refused.error.into()),
+    };
+    let mut entry = [0; 5];
+    let n = file.read(&mut entry, 1000)?;
+    assert!(rt; n == 5 && entry == *b"entry");
+    fs::remove_file(&rt, path)?;
+    Ok(())
+}
+
+#[test]
+fn with_a_commitment(rt: HostRuntime) -> Result<(), Fail> {
+    let (alloc, key) = (rt.alloc(), [7; 32]);
+    let rng = VecRng::new(Vec::from_elem(alloc, 5, 64)?);
+    let io = MemIo::new(alloc, Vec::new(alloc), Vec::new(alloc));
+    let builder = RafBuilder::<Aegis256, _, NoMerkle>::new(rng).merkle(Sha256Hasher::new(), 1024);
+    let mut file = match builder.create(alloc, io, &key) {
+        Ok(file) => file,
+        Err(refused) => return Err(refused.error.into()),
+    };
+    file.write(b"entry", 0)?;
+    let mut commitment = [0; 32];
+    file.merkle_commitment(&mut commitment)?;
+    let damaged = file.merkle_verify()?;
+    assert!(rt; damaged.is_none() && commitment != [0; 32]);
+    Ok(())
+}
+
+#[test]
+fn by_a_list_of_commands(rt: HostRuntime) -> Result<(), Fail> {
+    let (alloc, key) = (rt.alloc(), [7; 32]);
+    let rng = VecRng::new(Vec::from_elem(alloc, 5, 64)?);
+    let io = MemIo::new(alloc, Vec::new(alloc), Vec::new(alloc));
+    let (io, rng) = match RafBuilder::<Aegis256, _, NoMerkle>::new(rng).create(alloc, io, &key) {
+        Ok(file) => {
+            let parts = file.close();
+            (parts.io, parts.rng)
+        }
+        Err(refused) => return Err(refused.error.into()),
+    };
+    let mut commands = Vec::new(alloc);
+    commands.push(Command::Write { offset: 7, bytes: Data::from_vec(b"entry".to_vec(alloc)?) })?;
+    commands.push(Command::Size)?;
+    let end = session(alloc, RafBuilder::<Aegis256, _, NoMerkle>::new(rng), io, &key, &commands);
+    let replies = end.outcome?;
+    assert!(rt; matches!(replies.get(0), Some(Reply::Wrote(5))));
+    assert!(rt; matches!(replies.get(1), Some(Reply::Size(12))));
+    Ok(())
+}
