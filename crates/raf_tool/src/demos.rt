@@ -7,13 +7,7 @@ use aegis::raf::MemIo;
 use std::test::Fail;
 
 // Numbers of writes, and the sums that a plain list of bytes has after them.
-const SUMS: [(&str, &str); 5] = [
-    ("0", "0"),
-    ("1", "100"),
-    ("10", "5500"),
-    ("25", "32500"),
-    ("1000", "12349399"),
-];
+const SUMS: [(&str, &str); 3] = [("0", "0"), ("1", "100"), ("10", "5500")];
 
 #[test]
 fn a_demo_tells_its_sum(rt: HostRuntime) -> Result<(), Fail> {
