@@ -19,8 +19,10 @@ use Rattle.raf_format.specs.declared.version.Version.{Version}
 use Rattle.raf_format.specs.declared.version.Version.TheVariants.{V1}
 use Rattle.raf_script.specs.Words.{parts, words, number, hex_bytes, some_bytes}
 use Rattle.raf_script.specs.Lines.{◌>>=◌, fits, first, lines, lines_of_parts}
-use Rattle.raf_script.specs.Reading.{plain_command, truncate_command, range_command, command_words, command, commands, argument, algorithm_named, algorithm_words, key_words, randomness_words, tree_words, version_named, start_words, script}
-use Rattle.raf_script.specs.Script.{text_of, SpellsNumber, SpellsBytes, name_of, version_word, SpellsAlgorithm, SpellsKey, SpellsRandomness, SpellsTree, SpellsStart, SpellsCommand, Spells}
+use Rattle.raf_script.specs.Reading.{plain_command, truncate_command, range_command, command_words, command, commands, argument, algorithm_named, algorithm_words, key_words, randomness_words, tree_words, version_named, may_hold, start_words, script}
+use Rattle.raf_script.specs.Script.{MayHold, text_of, SpellsNumber, SpellsBytes, name_of, version_word, SpellsAlgorithm, SpellsKey, SpellsRandomness, SpellsTree, SpellsStart, SpellsCommand, Spells}
+use Rattle.raf_script.specs.declared.script.Medium.{Medium}
+use Rattle.raf_script.specs.declared.script.Medium.TheVariants.{Memory, Disk}
 use Rattle.raf_script.specs.declared.script.Randomness.{Randomness}
 use Rattle.raf_script.specs.declared.script.Randomness.TheVariants.{Random, Seed}
 use Rattle.raf_script.specs.declared.script.Start.{Start}
@@ -175,23 +177,29 @@ version_spelled w v h =
     by_word w (codes "1") _ _ (Some v) h (λ e k. subst (λ u. w ≡ version_word u) (some_value k) e) (λ h.
     by_word w (codes "2") _ _ (Some v) h (λ e k. subst (λ u. w ≡ version_word u) (some_value k) e) (λ k. (cc)))
 
-pub start_spelled : (n : ℕ) (ws : List (List ℕ)) (s : Start) → start_words n ws ≡ Ok s → SpellsStart ws s
-start_spelled n [] s h = (cc)
-start_spelled n (w ∷ []) s h = (cc)
-start_spelled n (w ∷ text ∷ []) s h =
+-- what a storage may hold, by its test
+may_hold_so : (medium : Medium) (bytes : List ℕ) → may_hold medium bytes ≡ true → MayHold medium bytes
+may_hold_so Memory bytes h = tt
+may_hold_so Disk bytes h = nil_from_length bytes (eqb-true (length bytes) 0 h)
+
+pub start_spelled : (n : ℕ) (medium : Medium) (ws : List (List ℕ)) (s : Start) → start_words n medium ws ≡ Ok s → SpellsStart medium ws s
+start_spelled n medium [] s h = (cc)
+start_spelled n medium (w ∷ []) s h = (cc)
+start_spelled n medium (w ∷ text ∷ []) s h =
     by_word w (codes "storage") _ _ (Ok s) h (λ e h.
-    by_bind (fits n (hex_bytes text)) _ s h (λ bytes read k.
-    came (SpellsStart (w ∷ text ∷ [])) (Storage bytes) s k (text, two text e, bytes_in n text bytes read))) (λ h.
+    by_bind (fits n (hex_bytes text)) _ s h (λ bytes read h.
+    by_test (may_hold medium bytes) _ _ (Ok s) h (λ t k.
+    came (SpellsStart medium (w ∷ text ∷ [])) (Storage bytes) s k (text, two text e, bytes_in n text bytes read, may_hold_so medium bytes t)) (λ k. (cc)))) (λ h.
     by_word w (codes "create") _ _ (Ok s) h (λ e h.
     by_bind (fits n (number 32 text)) _ s h (λ size read k.
-    came (SpellsStart (w ∷ text ∷ [])) (Create size V1) s k (text, number_in n 32 text size read, inr (two text e, refl)))) (λ k. (cc)))
-start_spelled n (w ∷ text ∷ name ∷ []) s h =
+    came (SpellsStart medium (w ∷ text ∷ [])) (Create size V1) s k (text, number_in n 32 text size read, inr (two text e, refl)))) (λ k. (cc)))
+start_spelled n medium (w ∷ text ∷ name ∷ []) s h =
     by_word w (codes "create") _ _ (Ok s) h (λ e h.
     by_bind (fits n (number 32 text)) _ s h (λ size read h.
     by_bind (fits n (version_named name)) _ s h (λ version named k.
     let is : name ≡ version_word version = version_spelled name version (fits_ok n (version_named name) version named) in
-    came (SpellsStart (w ∷ text ∷ name ∷ [])) (Create size version) s k (text, number_in n 32 text size read, inl (λ i. e i ∷ text ∷ is i ∷ []))))) (λ k. (cc))
-start_spelled n (w ∷ a ∷ b ∷ c ∷ more) s h = (cc)
+    came (SpellsStart medium (w ∷ text ∷ name ∷ [])) (Create size version) s k (text, number_in n 32 text size read, inl (λ i. e i ∷ text ∷ is i ∷ []))))) (λ k. (cc))
+start_spelled n medium (w ∷ a ∷ b ∷ c ∷ more) s h = (cc)
 
 -- ---- commands
 
@@ -292,9 +300,9 @@ five : {a b c d e a' b' c' d' e' : List ℕ} {r r' : List (Option (List ℕ))} �
 five p q s t u v = λ i. Some (p i) ∷ Some (q i) ∷ Some (s i) ∷ Some (t i) ∷ Some (u i) ∷ v i
 
 -- what a text reads as is what it spells
-pub script_spelled : (text : List ℕ) (s : Script) → script text ≡ Ok s → Spells text s
+pub script_spelled : (medium : Medium) (text : List ℕ) (s : Script) → script medium text ≡ Ok s → Spells medium text s
 unfolding script
-script_spelled text s h =
+script_spelled medium text s h =
     by_bind (first 1 (lines text)) _ s h (λ l1 r1 h.
     by_bind (algorithm_words 1 (words l1.0)) _ s h (λ a ra h.
     by_bind (first 2 l1.1) _ s h (λ l2 r2 h.
@@ -304,11 +312,11 @@ script_spelled text s h =
     by_bind (first 4 l3.1) _ s h (λ l4 r4 h.
     by_bind (tree_words 4 (words l4.0)) _ s h (λ t rt h.
     by_bind (first 5 l4.1) _ s h (λ l5 r5 h.
-    by_bind (start_words 5 (words l5.0)) _ s h (λ b rb h.
+    by_bind (start_words 5 medium (words l5.0)) _ s h (λ b rb h.
     by_bind (commands 6 l5.1) _ s h (λ cs rc k.
     let rest = commands_spelled 6 l5.1 cs rc in
     let shape = cut_lines (lines text) l1 l2 l3 l4 l5 r1 r2 r3 r4 r5 in
-    came (Spells text) (record { algorithm = a; key = key; randomness = r; max_chunks = t; start = b; commands = cs }) s k (record {
+    came (Spells medium text) (record { algorithm = a; key = key; randomness = r; max_chunks = t; start = b; commands = cs }) s k (record {
       algorithm_line = words l1.0;
       key_line = words l2.0;
       randomness_line = words l3.0;
@@ -321,6 +329,6 @@ script_spelled text s h =
       key = key_spelled 2 a (words l2.0) key rk;
       randomness = randomness_spelled 3 (words l3.0) r rr;
       tree = tree_spelled 4 (words l4.0) t rt;
-      start = start_spelled 5 (words l5.0) b rb;
+      start = start_spelled 5 medium (words l5.0) b rb;
       commands = rest.2;
     }))))))))))))

@@ -21,8 +21,10 @@ use Rattle.raf_format.specs.declared.version.Version.{Version}
 use Rattle.raf_format.specs.declared.version.Version.TheVariants.{V1, V2}
 use Rattle.raf_script.specs.Words.{parts, words, number, hex_bytes, some_bytes}
 use Rattle.raf_script.specs.Lines.{fits, lines}
-use Rattle.raf_script.specs.Reading.{plain_command, truncate_command, range_command, command_words, commands, argument, algorithm_named, algorithm_words, key_words, randomness_words, tree_words, version_named, start_words, script}
-use Rattle.raf_script.specs.Script.{line_text, text_of, SpellsNumber, SpellsBytes, name_of, version_word, SpellsAlgorithm, SpellsKey, SpellsRandomness, SpellsTree, SpellsStart, SpellsCommand, Spells, Fits}
+use Rattle.raf_script.specs.Reading.{plain_command, truncate_command, range_command, command_words, commands, argument, algorithm_named, algorithm_words, key_words, randomness_words, tree_words, version_named, may_hold, start_words, script}
+use Rattle.raf_script.specs.Script.{line_text, text_of, SpellsNumber, SpellsBytes, name_of, version_word, SpellsAlgorithm, SpellsKey, SpellsRandomness, SpellsTree, MayHold, SpellsStart, SpellsCommand, Spells, Fits}
+use Rattle.raf_script.specs.declared.script.Medium.{Medium}
+use Rattle.raf_script.specs.declared.script.Medium.TheVariants.{Memory, Disk}
 use Rattle.raf_script.specs.declared.script.Randomness.{Randomness}
 use Rattle.raf_script.specs.declared.script.Randomness.TheVariants.{Random, Seed}
 use Rattle.raf_script.specs.declared.script.Start.{Start}
@@ -202,17 +204,21 @@ create_is_line : (ws : List (List ℕ)) (w : List ℕ) (v : Version) → IsWord 
 create_is_line ws w v word (inl e) = let create : IsWord (codes "create") = search rules in rw e (omega arith, (create, (word, (version_is_word v, tt))))
 create_is_line ws w v word (inr e) = let create : IsWord (codes "create") = search rules in rw e.0 (omega arith, (create, (word, tt)))
 
-create_read : (n : ℕ) (ws : List (List ℕ)) (w : List ℕ) (size : ℕ) (v : Version) → number 32 w ≡ Some size → CreateWords ws w v → start_words n ws ≡ Ok (Create size v)
-create_read n ws w size v read (inl e) = rw (e, read, version_read v) refl
-create_read n ws w size v read (inr e) = rw (e.0, read, e.1) refl
+create_read : (n : ℕ) (medium : Medium) (ws : List (List ℕ)) (w : List ℕ) (size : ℕ) (v : Version) → number 32 w ≡ Some size → CreateWords ws w v → start_words n medium ws ≡ Ok (Create size v)
+create_read n medium ws w size v read (inl e) = rw (e, read, version_read v) refl
+create_read n medium ws w size v read (inr e) = rw (e.0, read, e.1) refl
 
-pub start_is_line : (ws : List (List ℕ)) (s : Start) → SpellsStart ws s → IsLine ws
-start_is_line ws (Storage bytes) h = let word : IsWord (codes "storage") = search rules in rw h.1 (omega arith, (word, (bytes_are_word h.0 bytes h.2, tt)))
-start_is_line ws (Create size v) h = create_is_line ws h.0 v (number_is_word 32 h.0 size (omega arith) h.1) h.2
+pub start_is_line : (medium : Medium) (ws : List (List ℕ)) (s : Start) → SpellsStart medium ws s → IsLine ws
+start_is_line medium ws (Storage bytes) h = let word : IsWord (codes "storage") = search rules in rw h.1 (omega arith, (word, (bytes_are_word h.0 bytes h.2, tt)))
+start_is_line medium ws (Create size v) h = create_is_line ws h.0 v (number_is_word 32 h.0 size (omega arith) h.1) h.2
 
-pub start_read : (n : ℕ) (ws : List (List ℕ)) (s : Start) → SpellsStart ws s → start_words n ws ≡ Ok s
-start_read n ws (Storage bytes) h = rw (h.1, bytes_read h.0 bytes h.2) refl
-start_read n ws (Create size v) h = create_read n ws h.0 size v (number_read 32 h.0 size (omega arith) h.1) h.2
+may_hold_told : (medium : Medium) (bytes : List ℕ) → MayHold medium bytes → may_hold medium bytes ≡ true
+may_hold_told Memory bytes h = refl
+may_hold_told Disk bytes h = rw h refl
+
+pub start_read : (n : ℕ) (medium : Medium) (ws : List (List ℕ)) (s : Start) → SpellsStart medium ws s → start_words n medium ws ≡ Ok s
+start_read n medium ws (Storage bytes) h = rw (h.1, bytes_read h.0 bytes h.2, may_hold_told medium bytes h.3) refl
+start_read n medium ws (Create size v) h = create_read n medium ws h.0 size v (number_read 32 h.0 size (omega arith) h.1) h.2
 
 -- ---- commands
 
@@ -262,23 +268,23 @@ commands_read n (ws ∷ wss) (c ∷ cs) h =
 -- ---- the whole
 
 -- a line that fits its place is one
-pub fits_line : (before : List (List (List ℕ))) (ws : List (List ℕ)) → Fits before ws → IsLine ws
-fits_line [] ws h = algorithm_is_line ws h.0 h.1
-fits_line (a ∷ []) ws h = key_is_line h.0 ws h.1 h.3
-fits_line (a ∷ b ∷ []) ws h = randomness_is_line ws h.0 h.1
-fits_line (a ∷ b ∷ c ∷ []) ws h = tree_is_line ws h.0 h.1
-fits_line (a ∷ b ∷ c ∷ d ∷ []) ws h = start_is_line ws h.0 h.1
-fits_line (a ∷ b ∷ c ∷ d ∷ e ∷ more) ws h = command_is_line ws h.0 h.1
+pub fits_line : (medium : Medium) (before : List (List (List ℕ))) (ws : List (List ℕ)) → Fits medium before ws → IsLine ws
+fits_line medium [] ws h = algorithm_is_line ws h.0 h.1
+fits_line medium (a ∷ []) ws h = key_is_line h.0 ws h.1 h.3
+fits_line medium (a ∷ b ∷ []) ws h = randomness_is_line ws h.0 h.1
+fits_line medium (a ∷ b ∷ c ∷ []) ws h = tree_is_line ws h.0 h.1
+fits_line medium (a ∷ b ∷ c ∷ d ∷ []) ws h = start_is_line medium ws h.0 h.1
+fits_line medium (a ∷ b ∷ c ∷ d ∷ e ∷ more) ws h = command_is_line ws h.0 h.1
 
 -- a text that spells a content reads as it
-pub spelled_read : (text : List ℕ) (s : Script) → Spells text s → script text ≡ Ok s
+pub spelled_read : (medium : Medium) (text : List ℕ) (s : Script) → Spells medium text s → script medium text ≡ Ok s
 unfolding script
-spelled_read text s h =
+spelled_read medium text s h =
     let l1 = algorithm_is_line h.algorithm_line s.algorithm h.algorithm in
     let l2 = key_is_line s.algorithm h.key_line s.key h.key in
     let l3 = randomness_is_line h.randomness_line s.randomness h.randomness in
     let l4 = tree_is_line h.tree_line s.max_chunks h.tree in
-    let l5 = start_is_line h.start_line s.start h.start in
+    let l5 = start_is_line medium h.start_line s.start h.start in
     let all : AreAllLines (h.algorithm_line ∷ h.key_line ∷ h.randomness_line ∷ h.tree_line ∷ h.start_line ∷ h.command_lines)
     = (l1.0, l1.1, (l2.0, l2.1, (l3.0, l3.1, (l4.0, l4.1, (l5.0, l5.1, commands_are_lines h.command_lines s.commands h.commands))))) in
     let cut = ap lines h.spelled ∙ lines_of_text (h.algorithm_line ∷ h.key_line ∷ h.randomness_line ∷ h.tree_line ∷ h.start_line ∷ h.command_lines) all in
@@ -293,6 +299,6 @@ spelled_read text s h =
       words_of_line h.tree_line l4.0 l4.1,
       tree_read 4 h.tree_line s.max_chunks h.tree,
       words_of_line h.start_line l5.0 l5.1,
-      start_read 5 h.start_line s.start h.start,
+      start_read 5 medium h.start_line s.start h.start,
       commands_read 6 h.command_lines s.commands h.commands,
     ) refl

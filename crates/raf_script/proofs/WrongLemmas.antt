@@ -12,8 +12,9 @@ use Rattle.raf_format.specs.Numbers.{variant_of}
 use Rattle.raf_format.specs.declared.algorithm_id.AlgorithmId.{AlgorithmId}
 use Rattle.raf_script.specs.Words.{parts, words, number, hex_bytes}
 use Rattle.raf_script.specs.Lines.{◌>>=◌, fits, first, lines}
-use Rattle.raf_script.specs.Reading.{plain_command, truncate_command, range_command, command_words, command, commands, argument, algorithm_named, algorithm_words, key_words, randomness_words, tree_words, start_words, script}
+use Rattle.raf_script.specs.Reading.{plain_command, truncate_command, range_command, command_words, command, commands, argument, algorithm_named, algorithm_words, key_words, randomness_words, tree_words, may_hold, start_words, script}
 use Rattle.raf_script.specs.Script.{line_text, text_of, SpellsKey, Fits, AllFit, IsFirstWrong}
+use Rattle.raf_script.specs.declared.script.Medium.{Medium}
 use Rattle.raf_script.proofs.PartsLemmas.{line_read, line_missing, lines_none}
 use Rattle.raf_script.proofs.CommandLemmas.{first_ok}
 use Rattle.raf_script.proofs.ReadingLemmas.{line_joined, algorithm_spelled, key_spelled, randomness_spelled, tree_spelled, start_spelled, command_spelled}
@@ -79,12 +80,12 @@ names_tree n (w ∷ a ∷ []) = search (names_ok, names_err, names_if)
 names_tree n (w ∷ a ∷ b ∷ []) = search (names_ok, names_err, names_if, names_fits, names_bind)
 names_tree n (w ∷ a ∷ b ∷ c ∷ more) = names_err n
 
-names_start : (n : ℕ) (ws : List (List ℕ)) → Names n (start_words n ws)
-names_start n [] = names_err n
-names_start n (w ∷ []) = names_err n
-names_start n (w ∷ a ∷ []) = search (names_ok, names_err, names_if, names_fits, names_bind)
-names_start n (w ∷ a ∷ b ∷ []) = search (names_ok, names_err, names_if, names_fits, names_bind)
-names_start n (w ∷ a ∷ b ∷ c ∷ more) = names_err n
+names_start : (n : ℕ) (medium : Medium) (ws : List (List ℕ)) → Names n (start_words n medium ws)
+names_start n medium [] = names_err n
+names_start n medium (w ∷ []) = names_err n
+names_start n medium (w ∷ a ∷ []) = search (names_ok, names_err, names_if, names_fits, names_bind)
+names_start n medium (w ∷ a ∷ b ∷ []) = search (names_ok, names_err, names_if, names_fits, names_bind)
+names_start n medium (w ∷ a ∷ b ∷ c ∷ more) = names_err n
 
 names_command : (n : ℕ) (ws : List (List ℕ)) → Names n (command_words n ws)
 unfolding plain_command truncate_command range_command
@@ -125,37 +126,37 @@ follows_by n text line after h (inr c) =
 
 -- ---- a place in a text: the lines before it fit theirs
 
-pub record Place (text : List ℕ) (before : List (List (List ℕ))) (rest : List ℕ) : Type 0 where
+pub record Place (medium : Medium) (text : List ℕ) (before : List (List (List ℕ))) (rest : List ℕ) : Type 0 where
   pub split : text ≡ text_of before ++ rest
-  pub fit : AllFit [] before
+  pub fit : AllFit medium [] before
 
-fit_more : (before ls : List (List (List ℕ))) (ws : List (List ℕ)) → AllFit before ls → Fits (before ++ ls) ws → AllFit before (ls ++ ws ∷ [])
-fit_more before [] ws h f = (subst (λ (b : List (List (List ℕ))). Fits b ws) (append-nil before) f, tt)
-fit_more before (l ∷ ls) ws h f =
+fit_more : (medium : Medium) (before ls : List (List (List ℕ))) (ws : List (List ℕ)) → AllFit medium before ls → Fits medium (before ++ ls) ws → AllFit medium before (ls ++ ws ∷ [])
+fit_more medium before [] ws h f = (subst (λ (b : List (List (List ℕ))). Fits medium b ws) (append-nil before) f, tt)
+fit_more medium before (l ∷ ls) ws h f =
     let same : before ++ l ∷ ls ≡ (before ++ l ∷ []) ++ ls = sym (append_assoc before (l ∷ []) ls) in
-    (h.0, fit_more (before ++ l ∷ []) ls ws h.1 (subst (λ (b : List (List (List ℕ))). Fits b ws) same f))
+    (h.0, fit_more medium (before ++ l ∷ []) ls ws h.1 (subst (λ (b : List (List (List ℕ))). Fits medium b ws) same f))
 
 -- past a line that fits
-advance : (text : List ℕ) (before : List (List (List ℕ))) (rest line b : List ℕ) → Place text before rest → rest ≡ line ++ 10 ∷ b → Fits before (words line) → Place text (before ++ words line ∷ []) b
-advance text before rest line b p e f = record {
+advance : (medium : Medium) (text : List ℕ) (before : List (List (List ℕ))) (rest line b : List ℕ) → Place medium text before rest → rest ≡ line ++ 10 ∷ b → Fits medium before (words line) → Place medium text (before ++ words line ∷ []) b
+advance medium text before rest line b p e f = record {
   split =
       let own : line ++ 10 ∷ b ≡ line_text (words line) ++ b = ap (λ (l : List ℕ). l ++ 10 ∷ b) (line_joined line) ∙ sym (append_assoc (join_with_byte 32 (words line)) (10 ∷ []) b) in
       let all : text_of (before ++ words line ∷ []) ≡ text_of before ++ line_text (words line) = flat_map-append line_text before (words line ∷ []) ∙ ap (λ (l : List ℕ). text_of before ++ l) (append-nil (line_text (words line))) in
       p.split ∙ ap (λ (l : List ℕ). text_of before ++ l) (e ∙ own) ∙ sym (append_assoc (text_of before) (line_text (words line)) b) ∙ ap (λ (l : List ℕ). l ++ b) (sym all);
-  fit = fit_more [] before (words line) p.fit f;
+  fit = fit_more medium [] before (words line) p.fit f;
 }
 
 -- a place where no line stands that fits
-stuck : (text : List ℕ) (before : List (List (List ℕ))) (rest : List ℕ) (n : ℕ) → Place text before rest → n ≡ length before + 1 → (n ≤ 5) ⊎ (0 < length rest)
-    → ((ws : List (List ℕ)) (after : List ℕ) → IsLine ws → lines rest ≡ Some (join_with_byte 32 ws) ∷ lines after → Fits before ws → ⊥)
-    → IsFirstWrong text n
-stuck text before rest n p number unfinished none = record {
+stuck : (medium : Medium) (text : List ℕ) (before : List (List (List ℕ))) (rest : List ℕ) (n : ℕ) → Place medium text before rest → n ≡ length before + 1 → (n ≤ 5) ⊎ (0 < length rest)
+    → ((ws : List (List ℕ)) (after : List ℕ) → IsLine ws → lines rest ≡ Some (join_with_byte 32 ws) ∷ lines after → Fits medium before ws → ⊥)
+    → IsFirstWrong medium text n
+stuck medium text before rest n p number unfinished none = record {
   before = before;
   rest = rest;
   split = p.split;
   number = number;
   fit = p.fit;
-  wrong = λ ws after e f. let line = fits_line before ws f in none ws after line (ap lines e ∙ lines_of_front ws after line) f;
+  wrong = λ ws after e f. let line = fits_line medium before ws f in none ws after line (ap lines e ∙ lines_of_front ws after line) f;
   unfinished = unfinished;
 }
 
@@ -172,20 +173,20 @@ by_err (Ok x) f m h wrong go = go x refl h
 by_err (Err n) f m h wrong go = wrong (ap (λ (k : ℕ). Err k) (err_value h))
 
 -- a reading of one line, at its place
-module _ {A : Type 0} (before : List (List (List ℕ))) (read : List (List ℕ) → Result A ℕ)
-    (fitting : (ws : List (List ℕ)) → Fits before ws → (x : A) × (read ws ≡ Ok x)) where
+module _ {A : Type 0} (medium : Medium) (before : List (List (List ℕ))) (read : List (List ℕ) → Result A ℕ)
+    (fitting : (ws : List (List ℕ)) → Fits medium before ws → (x : A) × (read ws ≡ Ok x)) where
   -- there is no line
-  missing : (text rest : List ℕ) (n m : ℕ) → Place text before rest → n ≡ length before + 1 → n ≤ 5 → first n (lines rest) ≡ Err m → IsFirstWrong text m
+  missing : (text rest : List ℕ) (n m : ℕ) → Place medium text before rest → n ≡ length before + 1 → n ≤ 5 → first n (lines rest) ≡ Err m → IsFirstWrong medium text m
   missing text rest n m p number few h =
       let same : m ≡ n = (names_first n (lines rest)).says m h in
-      subst (IsFirstWrong text) (sym same) (stuck text before rest n p number (inl few) (λ ws after line e f. some_line n m (lines rest) (lines after) (join_with_byte 32 ws) h e))
+      subst (IsFirstWrong medium text) (sym same) (stuck medium text before rest n p number (inl few) (λ ws after line e f. some_line n m (lines rest) (lines after) (join_with_byte 32 ws) h e))
 
   -- the line doesn't read
-  unread : (text rest : List ℕ) (n m : ℕ) (line : List ℕ) (more : List (Option (List ℕ))) → Place text before rest → n ≡ length before + 1 → (n ≤ 5) ⊎ (0 < length rest) → Names n (read (words line))
-      → lines rest ≡ Some line ∷ more → read (words line) ≡ Err m → IsFirstWrong text m
+  unread : (text rest : List ℕ) (n m : ℕ) (line : List ℕ) (more : List (Option (List ℕ))) → Place medium text before rest → n ≡ length before + 1 → (n ≤ 5) ⊎ (0 < length rest) → Names n (read (words line))
+      → lines rest ≡ Some line ∷ more → read (words line) ≡ Err m → IsFirstWrong medium text m
   unread text rest n m line more p number unfinished names shape h =
       let same : m ≡ n = names.says m h in
-      subst (IsFirstWrong text) (sym same) (stuck text before rest n p number unfinished (λ ws after is e f.
+      subst (IsFirstWrong medium text) (sym same) (stuck medium text before rest n p number unfinished (λ ws after is e f.
       let one : ◌≡◌ {A = List (Option (List ℕ))} (Some line ∷ more) (Some (join_with_byte 32 ws) ∷ lines after) = sym shape ∙ e in
       let joined : line ≡ join_with_byte 32 ws = (cc) in
       let cut : words line ≡ ws = ap words joined ∙ words_of_line ws is.0 is.1 in
@@ -195,15 +196,15 @@ module _ {A : Type 0} (before : List (List (List ℕ))) (read : List (List ℕ) 
 
   -- a line, and what is read of it, and then the rest
   step : {B : Type 0} (text rest : List ℕ) (ls : List (Option (List ℕ))) (n m : ℕ) (go : List ℕ × List (Option (List ℕ)) → A → Result B ℕ)
-      → Place text before rest → lines rest ≡ ls → n ≡ length before + 1 → n ≤ 5 → ((ws : List (List ℕ)) → Names n (read ws)) → ((ws : List (List ℕ)) (x : A) → read ws ≡ Ok x → Fits before ws)
+      → Place medium text before rest → lines rest ≡ ls → n ≡ length before + 1 → n ≤ 5 → ((ws : List (List ℕ)) → Names n (read ws)) → ((ws : List (List ℕ)) (x : A) → read ws ≡ Ok x → Fits medium before ws)
       → (first n ls >>= λ l. read (words l.0) >>= λ x. go l x) ≡ Err m
-      → ((l : List ℕ × List (Option (List ℕ))) (x : A) (b : List ℕ) → read (words l.0) ≡ Ok x → Place text (before ++ words l.0 ∷ []) b → lines b ≡ l.1 → go l x ≡ Err m → IsFirstWrong text m)
-      → IsFirstWrong text m
+      → ((l : List ℕ × List (Option (List ℕ))) (x : A) (b : List ℕ) → read (words l.0) ≡ Ok x → Place medium text (before ++ words l.0 ∷ []) b → lines b ≡ l.1 → go l x ≡ Err m → IsFirstWrong medium text m)
+      → IsFirstWrong medium text m
   step text rest ls n m go p shape number few names spelled h then' =
       by_err (first n ls) _ m h (λ no. missing text rest n m p number few (ap (first n) shape ∙ no)) (λ l found h.
       by_err (read (words l.0)) _ m h (λ no. unread text rest n m l.0 l.1 p number (inl few) (names (words l.0)) (shape ∙ first_ok n ls l.0 l.1 found) no) (λ x got h.
       let next = follows_by n rest l.0 l.1 (ap (first n) shape ∙ found) (cut_first rest) in
-      then' l x next.0 got (advance text before rest l.0 next.0 p next.1 (spelled (words l.0) x got)) next.2 h))
+      then' l x next.0 got (advance medium text before rest l.0 next.0 p next.1 (spelled (words l.0) x got)) next.2 h))
 
 -- ---- commands, after the five lines
 
@@ -211,30 +212,30 @@ nonempty : (rest : List ℕ) (l : Option (List ℕ)) (more : List (Option (List 
 nonempty [] l more h = let none = lines_none in (cc)
 nonempty (x ∷ rest) l more h = omega arith
 
-module _ (text : List ℕ) (a b c d e : List (List ℕ)) where
+module _ (medium : Medium) (text : List ℕ) (a b c d e : List (List ℕ)) where
   abbrev Before : List (List (List ℕ)) → List (List (List ℕ))
   Before done = a ∷ b ∷ c ∷ d ∷ e ∷ done
 
-  wrong_command : (ls : List (Option (List ℕ))) (n m : ℕ) (done : List (List (List ℕ))) (rest : List ℕ) → Place text (Before done) rest → lines rest ≡ ls → n ≡ length (Before done) + 1
-      → commands n ls ≡ Err m → IsFirstWrong text m
+  wrong_command : (ls : List (Option (List ℕ))) (n m : ℕ) (done : List (List (List ℕ))) (rest : List ℕ) → Place medium text (Before done) rest → lines rest ≡ ls → n ≡ length (Before done) + 1
+      → commands n ls ≡ Err m → IsFirstWrong medium text m
   unfolding commands
   wrong_command [] n m done rest p shape number h = (cc)
   wrong_command (None ∷ more) n m done rest p shape number h =
       let same : n ≡ m = err_value h in
-      subst (IsFirstWrong text) same (stuck text (Before done) rest n p number (inr (nonempty rest None more shape)) (λ ws after line e f.
+      subst (IsFirstWrong medium text) same (stuck medium text (Before done) rest n p number (inr (nonempty rest None more shape)) (λ ws after line e f.
       let odd : ◌≡◌ {A = List (Option (List ℕ))} (None ∷ more) (Some (join_with_byte 32 ws) ∷ lines after) = sym shape ∙ e in
       (cc)))
   wrong_command (Some line ∷ more) n m done rest p shape number h =
-      let fitting : (ws : List (List ℕ)) → Fits (Before done) ws → (x : Command) × (command_words n ws ≡ Ok x) = λ ws f. (f.0, command_read n ws f.0 f.1) in
+      let fitting : (ws : List (List ℕ)) → Fits medium (Before done) ws → (x : Command) × (command_words n ws ≡ Ok x) = λ ws f. (f.0, command_read n ws f.0 f.1) in
       by_err (command n line) _ m h
-      (λ wrong. unread (Before done) (command_words n) fitting text rest n m line more p number (inr (nonempty rest (Some line) more shape)) (names_command n (words line)) shape wrong)
+      (λ wrong. unread medium (Before done) (command_words n) fitting text rest n m line more p number (inr (nonempty rest (Some line) more shape)) (names_command n (words line)) shape wrong)
       (λ x read h. by_err (commands (n + 1) more) _ m h
       (λ later.
       let given : first n (lines rest) ≡ Ok (line, more) = rw shape refl in
       let next = follows_by n rest line more given (cut_first rest) in
-      let here : Fits (Before done) (words line) = (x, command_spelled n (words line) x read) in
+      let here : Fits medium (Before done) (words line) = (x, command_spelled n (words line) x read) in
       let count : n + 1 ≡ length (Before (done ++ words line ∷ [])) + 1 = rw (length-append done (words line ∷ [])) (omega (arith, number)) in
-      wrong_command more (n + 1) m (done ++ words line ∷ []) next.0 (advance text (Before done) rest line next.0 p next.1 here) next.2 count later)
+      wrong_command more (n + 1) m (done ++ words line ∷ []) next.0 (advance medium text (Before done) rest line next.0 p next.1 here) next.2 count later)
       (λ cs read' h. (cc)))
 
 -- ---- the whole
@@ -242,21 +243,21 @@ module _ (text : List ℕ) (a b c d e : List (List ℕ)) where
 ok_same : {A : Type 0} {x y : A} → ◌≡◌ {A = Result A ℕ} (Ok x) (Ok y) → x ≡ y
 ok_same h = (cc)
 
-pub wrong_script : (text : List ℕ) (m : ℕ) → script text ≡ Err m → IsFirstWrong text m
+pub wrong_script : (medium : Medium) (text : List ℕ) (m : ℕ) → script medium text ≡ Err m → IsFirstWrong medium text m
 unfolding script
-wrong_script text m h =
-    step [] (algorithm_words 1) (λ ws f. (f.0, algorithm_read 1 ws f.0 f.1)) text text (lines text) 1 m _ (record { split = refl; fit = tt }) refl refl (omega arith) (names_algorithm 1)
+wrong_script medium text m h =
+    step medium [] (algorithm_words 1) (λ ws f. (f.0, algorithm_read 1 ws f.0 f.1)) text text (lines text) 1 m _ (record { split = refl; fit = tt }) refl refl (omega arith) (names_algorithm 1)
     (λ ws a got. (a, algorithm_spelled 1 ws a got)) h (λ l1 a b1 ra p1 s1 h.
-    step (words l1.0 ∷ []) (key_words 2 a)
+    step medium (words l1.0 ∷ []) (key_words 2 a)
     (λ ws f. let same : f.0 ≡ a = ok_same (sym (algorithm_read 1 (words l1.0) f.0 f.2) ∙ ra) in (f.1, key_read 2 a ws f.1 (subst (λ (v : AlgorithmId). SpellsKey v ws f.1) same f.3)))
     text b1 l1.1 2 m _ p1 s1 refl (omega arith) (names_key 2 a)
     (λ ws key got. (a, key, algorithm_spelled 1 (words l1.0) a ra, key_spelled 2 a ws key got)) h (λ l2 key b2 rk p2 s2 h.
-    step (words l1.0 ∷ words l2.0 ∷ []) (randomness_words 3) (λ ws f. (f.0, randomness_read 3 ws f.0 f.1)) text b2 l2.1 3 m _ p2 s2 refl (omega arith) (names_randomness 3)
+    step medium (words l1.0 ∷ words l2.0 ∷ []) (randomness_words 3) (λ ws f. (f.0, randomness_read 3 ws f.0 f.1)) text b2 l2.1 3 m _ p2 s2 refl (omega arith) (names_randomness 3)
     (λ ws r got. (r, randomness_spelled 3 ws r got)) h (λ l3 r b3 rr p3 s3 h.
-    step (words l1.0 ∷ words l2.0 ∷ words l3.0 ∷ []) (tree_words 4) (λ ws f. (f.0, tree_read 4 ws f.0 f.1)) text b3 l3.1 4 m _ p3 s3 refl (omega arith) (names_tree 4)
+    step medium (words l1.0 ∷ words l2.0 ∷ words l3.0 ∷ []) (tree_words 4) (λ ws f. (f.0, tree_read 4 ws f.0 f.1)) text b3 l3.1 4 m _ p3 s3 refl (omega arith) (names_tree 4)
     (λ ws t got. (t, tree_spelled 4 ws t got)) h (λ l4 t b4 rt p4 s4 h.
-    step (words l1.0 ∷ words l2.0 ∷ words l3.0 ∷ words l4.0 ∷ []) (start_words 5) (λ ws f. (f.0, start_read 5 ws f.0 f.1)) text b4 l4.1 5 m _ p4 s4 refl (omega arith) (names_start 5)
-    (λ ws s got. (s, start_spelled 5 ws s got)) h (λ l5 s b5 rs p5 s5 h.
+    step medium (words l1.0 ∷ words l2.0 ∷ words l3.0 ∷ words l4.0 ∷ []) (start_words 5 medium) (λ ws f. (f.0, start_read 5 medium ws f.0 f.1)) text b4 l4.1 5 m _ p4 s4 refl (omega arith) (names_start 5 medium)
+    (λ ws s got. (s, start_spelled 5 medium ws s got)) h (λ l5 s b5 rs p5 s5 h.
     by_err (commands 6 l5.1) _ m h
-    (λ wrong. wrong_command text (words l1.0) (words l2.0) (words l3.0) (words l4.0) (words l5.0) l5.1 6 m [] b5 p5 s5 refl wrong)
+    (λ wrong. wrong_command medium text (words l1.0) (words l2.0) (words l3.0) (words l4.0) (words l5.0) l5.1 6 m [] b5 p5 s5 refl wrong)
     (λ cs rc h. (cc)))))))

@@ -1,5 +1,5 @@
 -- How a script is read, line by line: its content, or the number of the first wrong line (this project's own).
-use Rattle.std.specs.Prelude.{◌≡◌, ◌∷◌, [], ℕ, ◌+◌, List, length, codes, Option, Some, None, Result, Ok, Err, if◌then◌else◌, ◌==◌, bytes_eq, ◌<◌}
+use Rattle.std.specs.Prelude.{◌≡◌, ◌∷◌, [], ℕ, ◌+◌, Bool, true, List, length, codes, Option, Some, None, Result, Ok, Err, if◌then◌else◌, ◌==◌, bytes_eq, ◌<◌}
 use Rattle.raf.specs.declared.command.Command.{Command}
 use Rattle.raf.specs.declared.command.Command.TheVariants.{Read, Write, Truncate, Size, Sync, Rebuild, Verify, Commitment}
 use Rattle.aegis_core.specs.Sealing.{key_len}
@@ -10,6 +10,8 @@ use Rattle.raf_format.specs.declared.version.Version.{Version}
 use Rattle.raf_format.specs.declared.version.Version.TheVariants.{V1, V2}
 use Rattle.raf_script.specs.Words.{words, number, hex_bytes}
 use Rattle.raf_script.specs.Lines.{◌>>=◌, fits, first, lines}
+use Rattle.raf_script.specs.declared.script.Medium.{Medium}
+use Rattle.raf_script.specs.declared.script.Medium.TheVariants.{Memory, Disk}
 use Rattle.raf_script.specs.declared.script.Randomness.{Randomness}
 use Rattle.raf_script.specs.declared.script.Randomness.TheVariants.{Random, Seed}
 use Rattle.raf_script.specs.declared.script.Start.{Start}
@@ -134,26 +136,31 @@ tree_words n (word ∷ a ∷ b ∷ c ∷ more) = Err n
 abbrev pub version_named : List ℕ → Option Version
 version_named word = if bytes_eq word (codes "1") then Some V1 else if bytes_eq word (codes "2") then Some V2 else None
 
--- line 5: `storage <hex>`, `create <chunk size>`, or `create <chunk size> <version>`
-abbrev pub start_words : ℕ → List (List ℕ) → Result Start ℕ
-start_words n (word ∷ text ∷ []) =
+-- a script says what its memory holds; of a disk it says nothing
+abbrev pub may_hold : Medium → List ℕ → Bool
+may_hold Memory bytes = true
+may_hold Disk bytes = length bytes == 0
+
+-- line 5: `storage <hex>`, for a disk `storage -` alone; `create <chunk size>`, or `create <chunk size> <version>`
+abbrev pub start_words : ℕ → Medium → List (List ℕ) → Result Start ℕ
+start_words n medium (word ∷ text ∷ []) =
     if bytes_eq word (codes "storage") then (do
       bytes ← fits n (hex_bytes text)
-      Ok (Storage bytes))
+      if may_hold medium bytes then Ok (Storage bytes) else Err n)
     else if bytes_eq word (codes "create") then (do
       size ← fits n (number 32 text)
       Ok (Create size V1))
     else Err n
-start_words n (word ∷ text ∷ name ∷ []) = if bytes_eq word (codes "create") then (do
+start_words n medium (word ∷ text ∷ name ∷ []) = if bytes_eq word (codes "create") then (do
   size ← fits n (number 32 text)
   version ← fits n (version_named name)
   Ok (Create size version)) else Err n
-start_words n [] = Err n
-start_words n (word ∷ []) = Err n
-start_words n (word ∷ a ∷ b ∷ c ∷ more) = Err n
+start_words n medium [] = Err n
+start_words n medium (word ∷ []) = Err n
+start_words n medium (word ∷ a ∷ b ∷ c ∷ more) = Err n
 
-unfoldable pub script : List ℕ → Result Script ℕ
-script text = do
+unfoldable pub script : Medium → List ℕ → Result Script ℕ
+script medium text = do
   l1 ← first 1 (lines text)
   algorithm ← algorithm_words 1 (words l1.0)
   l2 ← first 2 l1.1
@@ -163,6 +170,6 @@ script text = do
   l4 ← first 4 l3.1
   tree ← tree_words 4 (words l4.0)
   l5 ← first 5 l4.1
-  start ← start_words 5 (words l5.0)
+  start ← start_words 5 medium (words l5.0)
   cs ← commands 6 l5.1
   Ok (record { algorithm = algorithm; key = key; randomness = randomness; max_chunks = tree; start = start; commands = cs })

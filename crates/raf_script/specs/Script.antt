@@ -10,6 +10,8 @@ use Rattle.raf_format.specs.declared.algorithm_id.AlgorithmId.{AlgorithmId}
 use Rattle.raf_format.specs.declared.algorithm_id.AlgorithmId.TheVariants.{Aegis128L, Aegis128X2, Aegis128X4, Aegis256, Aegis256X2, Aegis256X4}
 use Rattle.raf_format.specs.declared.version.Version.{Version}
 use Rattle.raf_format.specs.declared.version.Version.TheVariants.{V1, V2}
+use Rattle.raf_script.specs.declared.script.Medium.{Medium}
+use Rattle.raf_script.specs.declared.script.Medium.TheVariants.{Memory, Disk}
 use Rattle.raf_script.specs.declared.script.Randomness.{Randomness}
 use Rattle.raf_script.specs.declared.script.Randomness.TheVariants as source
 use Rattle.raf_script.specs.declared.script.Start.{Start}
@@ -65,10 +67,15 @@ abbrev pub SpellsTree : List (List ℕ) → Option ℕ → Type 0
 SpellsTree words None = words ≡ codes "merkle" ∷ codes "none" ∷ []
 SpellsTree words (Some most) = (w : List ℕ) × (words ≡ codes "merkle" ∷ codes "sha256" ∷ w ∷ []) × SpellsNumber 64 w most
 
+-- a script says what its memory holds; of a disk it says nothing
+abbrev pub MayHold : Medium → List ℕ → Type 0
+MayHold Memory bytes = ⊤
+MayHold Disk bytes = bytes ≡ []
+
 -- line 5: what the storage holds, or the chunk size and the version of a new file; version 1 may be left out
-abbrev pub SpellsStart : List (List ℕ) → Start → Type 0
-SpellsStart words (start.Storage bytes) = (w : List ℕ) × (words ≡ codes "storage" ∷ w ∷ []) × SpellsBytes w bytes
-SpellsStart words (start.Create size version) = (w : List ℕ) × SpellsNumber 32 w size
+abbrev pub SpellsStart : Medium → List (List ℕ) → Start → Type 0
+SpellsStart medium words (start.Storage bytes) = (w : List ℕ) × (words ≡ codes "storage" ∷ w ∷ []) × SpellsBytes w bytes × MayHold medium bytes
+SpellsStart medium words (start.Create size version) = (w : List ℕ) × SpellsNumber 32 w size
     × ((words ≡ codes "create" ∷ w ∷ version_word version ∷ []) ⊎ ((words ≡ codes "create" ∷ w ∷ []) × (version ≡ V1)))
 
 -- each further line
@@ -84,8 +91,8 @@ SpellsCommand words command.Rebuild = words ≡ codes "rebuild" ∷ []
 SpellsCommand words command.Verify = words ≡ codes "verify" ∷ []
 SpellsCommand words command.Commitment = words ≡ codes "commitment" ∷ []
 
--- The text is a script with this content: five lines of settings, and then a line a command.
-pub record Spells (text : List ℕ) (s : Script) : Type 0 where
+-- The text is a script with this content, over a storage of this kind: five lines of settings, and then a line a command.
+pub record Spells (medium : Medium) (text : List ℕ) (s : Script) : Type 0 where
   pub algorithm_line : List (List ℕ)
   pub key_line : List (List ℕ)
   pub randomness_line : List (List ℕ)
@@ -97,36 +104,36 @@ pub record Spells (text : List ℕ) (s : Script) : Type 0 where
   pub key : SpellsKey s.algorithm key_line s.key
   pub randomness : SpellsRandomness randomness_line s.randomness
   pub tree : SpellsTree tree_line s.max_chunks
-  pub start : SpellsStart start_line s.start
+  pub start : SpellsStart medium start_line s.start
   pub commands : AllZip SpellsCommand command_lines s.commands
 
 -- A line of words fits its place, which is after these lines.
-abbrev pub Fits : List (List (List ℕ)) → List (List ℕ) → Type 0
-Fits [] words = (a : AlgorithmId) × SpellsAlgorithm words a
-Fits (alg ∷ []) words = (a : AlgorithmId) × (key : List ℕ) × SpellsAlgorithm alg a × SpellsKey a words key
-Fits (alg ∷ key ∷ []) words = (r : Randomness) × SpellsRandomness words r
-Fits (alg ∷ key ∷ random ∷ []) words = (most : Option ℕ) × SpellsTree words most
-Fits (alg ∷ key ∷ random ∷ tree ∷ []) words = (s : Start) × SpellsStart words s
-Fits (alg ∷ key ∷ random ∷ tree ∷ start ∷ more) words = (c : Command) × SpellsCommand words c
+abbrev pub Fits : Medium → List (List (List ℕ)) → List (List ℕ) → Type 0
+Fits medium [] words = (a : AlgorithmId) × SpellsAlgorithm words a
+Fits medium (alg ∷ []) words = (a : AlgorithmId) × (key : List ℕ) × SpellsAlgorithm alg a × SpellsKey a words key
+Fits medium (alg ∷ key ∷ []) words = (r : Randomness) × SpellsRandomness words r
+Fits medium (alg ∷ key ∷ random ∷ []) words = (most : Option ℕ) × SpellsTree words most
+Fits medium (alg ∷ key ∷ random ∷ tree ∷ []) words = (s : Start) × SpellsStart medium words s
+Fits medium (alg ∷ key ∷ random ∷ tree ∷ start ∷ more) words = (c : Command) × SpellsCommand words c
 
 -- Each of the lines fits its place, the first of them after those before.
-abbrev pub AllFit : List (List (List ℕ)) → List (List (List ℕ)) → Type 0
-AllFit before [] = ⊤
-AllFit before (line ∷ lines) = Fits before line × AllFit (before ++ line ∷ []) lines
+abbrev pub AllFit : Medium → List (List (List ℕ)) → List (List (List ℕ)) → Type 0
+AllFit medium before [] = ⊤
+AllFit medium before (line ∷ lines) = Fits medium before line × AllFit medium (before ++ line ∷ []) lines
 
 -- Line n, counted from 1, is the first that doesn't fit its place: what stands after the lines before it doesn't begin with a line that
 -- does. After the fifth line a script may end.
-pub record IsFirstWrong (text : List ℕ) (n : ℕ) : Type 0 where
+pub record IsFirstWrong (medium : Medium) (text : List ℕ) (n : ℕ) : Type 0 where
   pub before : List (List (List ℕ))
   pub rest : List ℕ
   pub split : text ≡ text_of before ++ rest
   pub number : n ≡ length before + 1
-  pub fit : AllFit [] before
-  pub wrong : (words : List (List ℕ)) (after : List ℕ) → rest ≡ line_text words ++ after → Fits before words → ⊥
+  pub fit : AllFit medium [] before
+  pub wrong : (words : List (List ℕ)) (after : List ℕ) → rest ≡ line_text words ++ after → Fits medium before words → ⊥
   pub unfinished : (n ≤ 5) ⊎ (0 < length rest)
 
 -- What a reading of the text answered: the content that it spells; or, where it spells none, its first wrong line. Want of memory is free.
-abbrev pub Reads : List ℕ → Result Script ScriptError → Type 0
-Reads text (Ok s) = Spells text s
-Reads text (Err (errors.Line n)) = IsFirstWrong text n × ((s : Script) → Spells text s → ⊥)
-Reads text (Err errors.OutOfMemory) = ⊤
+abbrev pub Reads : Medium → List ℕ → Result Script ScriptError → Type 0
+Reads medium text (Ok s) = Spells medium text s
+Reads medium text (Err (errors.Line n)) = IsFirstWrong medium text n × ((s : Script) → Spells medium text s → ⊥)
+Reads medium text (Err errors.OutOfMemory) = ⊤

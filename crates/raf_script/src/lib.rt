@@ -7,5 +7,6 @@ mod settings;
 mod values;
 mod words;
 
-pub use script::{Commands, Randomness, Script, ScriptError, Start};
+pub use script::{Commands, Medium, Randomness, Script, ScriptError, Start};
 pub use settings::parse;
+pub use values::number_of;

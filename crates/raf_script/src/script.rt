@@ -56,10 +56,19 @@ pub enum Randomness {
     Seed([u8; 32]),
 }
 
+/// Where a script's storage is.
+#[derive(Clone, Copy, Debug, PartialEq, Eq)]
+pub enum Medium {
+    /// In memory: the script says what it holds.
+    Memory,
+    /// On a disk, which holds what it holds.
+    Disk,
+}
+
 /// What the storage of a script holds at first.
 #[derive(Drop)]
 pub enum Start {
-    /// These bytes.
+    /// These bytes; on a disk none, which stand for those that it holds.
     Storage(Data),
     /// A new file.
     Create {

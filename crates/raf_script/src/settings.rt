@@ -1,14 +1,14 @@
 //! The first five lines of a script, and the whole of it.
-ghost use Rattle.std.specs.Prelude.{◌≡◌, ◌∷◌, [], ◌^◌, ◌<◌, length};
+ghost use Rattle.std.specs.Prelude.{◌≡◌, ◌∷◌, [], ◌^◌, ◌<◌, codes, length};
 ghost use Rattle.aegis_core.specs.Sealing as sealing;
 ghost use Rattle.raf_format.specs.Numbers.{variant_of};
 ghost use Rattle.raf_script.specs.Words.{words};
 ghost use Rattle.raf_script.specs.Lines.{Gives, fits};
 ghost use Rattle.raf_script.specs.Script.{Reads};
-ghost use Rattle.raf_script.specs.Reading.{argument, algorithm_named, algorithm_words, key_words, randomness_words, tree_words, version_named, start_words, script};
+ghost use Rattle.raf_script.specs.Reading.{argument, algorithm_named, algorithm_words, key_words, randomness_words, tree_words, version_named, start_words, script, may_hold};
 
 use crate::lines::{commands_from, line_at};
-use crate::script::{Randomness, Script, ScriptError, Start};
+use crate::script::{Medium, Randomness, Script, ScriptError, Start};
 use crate::values::{bytes_at, number_at, small_at};
 use crate::words::{LineWords, words_of};
 use raf::Data;
@@ -147,12 +147,40 @@ fn version_at(number: u64, word: &[u8]) -> Result<Version, ScriptError>
     }
 }
 
+// Whether a script may say that its storage holds these bytes.
+fn may_hold(medium: Medium, bytes: &Data) -> bool
+    ensures { result ≡ may_hold medium bytes.now }
+{
+    match medium {
+        Medium::Memory => true,
+        Medium::Disk => bytes.as_slice().is_empty(),
+    }
+}
+
+// What a storage holds.
+fn storage_at(alloc: Global, number: u64, medium: Medium, text: &[u8]) -> Result<Start, ScriptError>
+    ensures { Gives (λ s. s) result (start_words number medium (codes "storage" ∷ text.now ∷ [])) }
+{
+    let bytes = bytes_at(alloc, number, text)?;
+    if may_hold(medium, &bytes) {
+        Ok(Start::Storage(bytes))
+    } else {
+        Err(ScriptError::Line(number))
+    }
+}
+
 // What a storage holds, or the chunk size of a new file of version 1.
-fn start_of_two(alloc: Global, number: u64, word: &[u8], text: &[u8]) -> Result<Start, ScriptError>
-    ensures { Gives (λ s. s) result (start_words number (word.now ∷ text.now ∷ [])) }
+fn start_of_two(
+    alloc: Global,
+    number: u64,
+    medium: Medium,
+    word: &[u8],
+    text: &[u8],
+) -> Result<Start, ScriptError>
+    ensures { Gives (λ s. s) result (start_words number medium (word.now ∷ text.now ∷ [])) }
 {
     if word == b"storage".as_slice() {
-        return Ok(Start::Storage(bytes_at(alloc, number, text)?));
+        return storage_at(alloc, number, medium, text);
     }
     if word != b"create".as_slice() {
         return Err(ScriptError::Line(number));
@@ -167,11 +195,12 @@ fn start_of_two(alloc: Global, number: u64, word: &[u8], text: &[u8]) -> Result<
 // The chunk size of a new file, and its version.
 fn start_of_three(
     number: u64,
+    medium: Medium,
     word: &[u8],
     text: &[u8],
     version: &[u8],
 ) -> Result<Start, ScriptError>
-    ensures { Gives (λ s. s) result (start_words number (word.now ∷ text.now ∷ version.now ∷ [])) }
+    ensures { Gives (λ s. s) result (start_words number medium (word.now ∷ text.now ∷ version.now ∷ [])) }
 {
     if word != b"create".as_slice() {
         return Err(ScriptError::Line(number));
@@ -184,22 +213,24 @@ fn start_of_three(
     })
 }
 
-fn start_at(alloc: Global, number: u64, line: &[u8]) -> Result<Start, ScriptError>
-    ensures { Gives (λ s. s) result (start_words number (words line.now)) }
+fn start_at(alloc: Global, number: u64, medium: Medium, line: &[u8]) -> Result<Start, ScriptError>
+    ensures { Gives (λ s. s) result (start_words number medium (words line.now)) }
 {
     match words_of(line) {
         LineWords::One(_) => Err(ScriptError::Line(number)),
-        LineWords::Two(word, text) => start_of_two(alloc, number, word, text),
-        LineWords::Three(word, text, version) => start_of_three(number, word, text, version),
+        LineWords::Two(word, text) => start_of_two(alloc, number, medium, word, text),
+        LineWords::Three(word, text, version) => start_of_three(
+            number, medium, word, text, version,
+        ),
         LineWords::More => Err(ScriptError::Line(number)),
     }
 }
 
 // The content of the script, or its first wrong line.
 #[tactic(auto, unfolding(crate::specs::Reading::script))]
-fn read_script(alloc: Global, text: &[u8]) -> Result<Script, ScriptError>
+fn read_script(alloc: Global, text: &[u8], medium: Medium) -> Result<Script, ScriptError>
     requires { length text.now < 2 ^ 32 }
-    ensures { Gives (λ s. s) result (script text.now) }
+    ensures { Gives (λ s. s) result (script medium text.now) }
 {
     let (line, rest) = line_at(1, text)?;
     let algorithm = algorithm_at(1, line)?;
@@ -210,7 +241,7 @@ fn read_script(alloc: Global, text: &[u8]) -> Result<Script, ScriptError>
     let (line, rest) = line_at(4, rest)?;
     let max_chunks = tree_at(4, line)?;
     let (line, rest) = line_at(5, rest)?;
-    let start = start_at(alloc, 5, line)?;
+    let start = start_at(alloc, 5, medium, line)?;
     let commands = commands_from(alloc, 6, rest)?;
     Ok(Script {
         algorithm,
@@ -222,10 +253,11 @@ fn read_script(alloc: Global, text: &[u8]) -> Result<Script, ScriptError>
     })
 }
 
-/// The content that the text spells, or its first wrong line: the first that doesn't fit its place.
-pub fn parse(alloc: Global, text: &[u8]) -> Result<Script, ScriptError>
+/// The content that the text spells, or its first wrong line: the first that doesn't fit its place. For a disk the fifth line doesn't
+/// spell bytes.
+pub fn parse(alloc: Global, text: &[u8], medium: Medium) -> Result<Script, ScriptError>
     requires { length text.now < 2 ^ 32 }
-    ensures { Reads text.now result }
+    ensures { Reads medium text.now result }
 {
-    read_script(alloc, text)
+    read_script(alloc, text, medium)
 }

@@ -20,8 +20,8 @@ fn is_plain(word: &[u8]) -> bool
     }
 }
 
-/// A number in decimal digits, without a leading zero.
-fn number_of(word: &[u8]) -> Option<u64>
+/// The number that a word spells in decimal digits, without a leading zero.
+pub fn number_of(word: &[u8]) -> Option<u64>
     ensures { result ≡ number 64 word.now }
 {
     if !is_plain(word) {

@@ -1,4 +1,4 @@
--- A script whose content is valid has status 0, or 7 for want of memory.
+-- A script whose content is valid has status 0, unless memory ran out or the storage failed.
 use Rattle.std.proofs.Common.{◌≡◌, ℕ, zero, suc, ◌+◌, ◌-◌, ◌^◌, ◌<◌, ◌≤◌, Bool, true, false, List, [], ◌∷◌, ◌++◌, length, drop, Option, Some, None, Result, Ok, Err, refl, sym, ap, ◌∙◌, arith, subst, inl, inr}
 use Rattle.std.specs.Prelude.{◌⊎◌, IfOk, IfErr, slice_get, if◌then◌else◌, not, is_some, ⊤}
 use Rattle.std.proofs.lemmas.List.{length-drop}
@@ -35,9 +35,10 @@ use Rattle.raf.specs.declared.command.Reply.{Reply}
 use Rattle.raf.specs.declared.command.Reply.TheVariants.{Refused}
 use Rattle.raf_script.specs.declared.script.Start.{Start}
 use Rattle.raf_script.specs.declared.script.Start.TheVariants.{Storage, Create}
-use Rattle.raf_tool.specs.Ends.{Ground, BuilderOf, Served, ServedAnew, RefusedAnew, EndsOn, ground_of, told_by, over_memory, over_file}
-use Rattle.raf_tool.specs.Run.{outcome_status, last_status, refused_status}
-use Rattle.raf_tool.specs.Laws.{IsValidOn, IsValidAnew, IsValid, Completes, new_header}
+use Rattle.raf_tool.specs.Disk.{Disk, memory_of, over, disk_in}
+use Rattle.raf_tool.specs.Ends.{Ground, BuilderOf, Served, ServedAnew, RefusedAnew, EndsOn, EndsInMemory, ground_of, told_by, first_bytes}
+use Rattle.raf_tool.specs.Run.{outcome_status, memory_status, tells_io, last_status, refused_status, is_io, is_io_kind}
+use Rattle.raf_tool.specs.Laws.{IsValidOn, IsValidAnew, IsValid, CanCreate, IsExcused, Completes, CompletesInMemory, new_header}
 use Rattle.raf_tool.specs.declared.answer.End.{End}
 use Rattle.raf_tool.proofs.OneText.{taken_so_many, last_of, new_file}
 
@@ -87,13 +88,13 @@ abbrev pub AreQuiet : List Reply → Type 0
 AreQuiet [] = ⊤
 AreQuiet (r ∷ rs) = IsQuiet r × AreQuiet rs
 
-all_quiet : (G : session.Ground) (F : File) (cs : List Command) (rs : List Reply) → AllAnswer G F cs rs → AreQuiet rs
+pub all_quiet : (G : session.Ground) (F : File) (cs : List Command) (rs : List Reply) → AllAnswer G F cs rs → AreQuiet rs
 all_quiet G F [] [] h = tt
 all_quiet G F [] (r ∷ rs) h = absurd h
 all_quiet G F (c ∷ cs) [] h = absurd h
 all_quiet G F (c ∷ cs) (r ∷ rs) h = (due_quiet G F c r (valid G.limit F c) (apply G.limit F c) refl h.0, all_quiet G (apply G.limit F c).1 cs rs h.1)
 
-quiet_at : (rs : List Reply) (i : ℕ) → AreQuiet rs → last_status (slice_get rs i) ≡ 0
+pub quiet_at : (rs : List Reply) (i : ℕ) → AreQuiet rs → last_status (slice_get rs i) ≡ 0
 quiet_at [] zero h = refl
 quiet_at [] (suc i) h = refl
 quiet_at (r ∷ rs) zero h = h.0
@@ -101,23 +102,29 @@ quiet_at (r ∷ rs) (suc i) h = quiet_at rs i h.1
 
 -- ---- what stands against a fault
 
-asked_split : (limit : Option ℕ) (F : File) (done rest : List Command) (c : Command) → asked_in limit F done + asked_by limit (file_after limit F done) c ≤ asked_in limit F (done ++ c ∷ rest)
+pub asked_split : (limit : Option ℕ) (F : File) (done rest : List Command) (c : Command) → asked_in limit F done + asked_by limit (file_after limit F done) c ≤ asked_in limit F (done ++ c ∷ rest)
 asked_split limit F [] rest c = omega arith
 asked_split limit F (d ∷ done) rest c = omega (arith, asked_split limit (apply limit F d).1 done rest c)
 
 is_there : (n k : ℕ) (bytes : List ℕ) (middle : Option (List ℕ)) → middle ≡ Some (drop n bytes) → n + k ≤ length bytes → IsShort middle k → ⊥
 is_there n k bytes middle e enough short = let few : length (drop n bytes) < k = rw e at short in omega (arith, length-drop n bytes, few, enough)
 
-no_hash : (old new : ℕ) → new ≡ 0 → Rose old new → ⊥
+pub no_hash : (old new : ℕ) → new ≡ 0 → Rose old new → ⊥
 no_hash old new e rose = omega (arith, e, rose)
 
--- a status that is allowed
-abbrev pub IsGood : ℕ → Type 0
-IsGood n = (n ≡ 0) ⊎ (n ≡ 7)
+-- the kinds that memory and the storage may give
+abbrev pub is_excuse : ErrorKind → Bool
+is_excuse Io = true
+is_excuse OutOfMemory = true
+is_excuse _ = false
+
+-- memory ran out, or the storage failed
+abbrev pub Excused : Outside → Outside → Result (List Reply) Error → Type 0
+Excused old new outcome = (outcome_status outcome ≡ 7) ⊎ ((tells_io outcome ≡ true) × Rose old.io_faults new.io_faults)
 
 module _ (G : session.Ground) (F : File) (b : List ℕ) (cs : List Command) (random : List ℕ) (old new : Outside) (rs : List Reply) where
   faulted_good : (f : Faulted G F b cs old new rs) → old.left ≡ Some random → old.exact ≡ true → new.hash_faults ≡ 0 → asked_in G.limit F cs ≤ length random → (kind : ErrorKind) → f.kind ≡ kind
-      → last_status (Some (Refused kind)) ≡ 7
+      → kind ≡ Io
   faulted_good f left exact hash enough Io is = refl
   faulted_good f left exact hash enough Rng is =
       let drawn = taken_so_many (asked_in G.limit F f.done) random f.nonces f.middle f.course.drawn (subst (λ (l : Option (List ℕ)). Takes l f.nonces f.middle) left f.taken) in
@@ -137,21 +144,24 @@ module _ (G : session.Ground) (F : File) (b : List ℕ) (cs : List Command) (ran
   faulted_good f left exact hash enough OutOfMemory is = absurd (subst (λ (k : ErrorKind). Caused k old new) is f.cause)
 
   run_good : Whole G F b cs old new rs ⊎ Faulted G F b cs old new rs → old.left ≡ Some random → old.exact ≡ true → new.hash_faults ≡ 0 → asked_in G.limit F cs ≤ length random
-      → IsGood (last_status (slice_get rs (length rs - 1)))
+      → (outcome_status (Ok rs) ≡ 0) ⊎ Excused old new (Ok rs)
   run_good (inl w) left exact hash enough = inl (quiet_at rs (length rs - 1) (all_quiet G F cs rs w.course.played))
   run_good (inr f) left exact hash enough =
-      inr (ap (λ (l : List Reply). last_status (slice_get l (length l - 1))) f.last ∙ ap last_status (last_of f.answered (Refused f.kind)) ∙ faulted_good f left exact hash enough f.kind refl)
+      let is : f.kind ≡ Io = faulted_good f left exact hash enough f.kind refl in
+      let last : slice_get rs (length rs - 1) ≡ Some (Refused f.kind) = ap (λ (l : List Reply). slice_get l (length l - 1)) f.last ∙ last_of f.answered (Refused f.kind) in
+      let caused : Caused Io old new = subst (λ (k : ErrorKind). Caused k old new) is f.cause in
+      inr (inr (ap is_io last ∙ ap is_io_kind is, caused.0))
 
 -- ---- what stands against a refusal
 
-no_tree : (E : List ℕ → Hashing) (setting : Option (List ℕ)) (most : Option ℕ) (count : ℕ) (kind : ErrorKind) → Room E setting most count → WhyNoTree E setting most count kind → refused_status kind ≡ 7
+no_tree : (E : List ℕ → Hashing) (setting : Option (List ℕ)) (most : Option ℕ) (count : ℕ) (kind : ErrorKind) → Room E setting most count → WhyNoTree E setting most count kind → is_excuse kind ≡ true
 no_tree E setting most count OutOfMemory room why = refl
 no_tree E setting most count Io room why = refl
 no_tree E setting most count (InvalidArgument reason.HashLen) room why = let can = room why.0 why.1 why.2 why.3 in absurd (why.4 can.0.len)
 no_tree E setting most count (InvalidArgument reason.MaxChunks) room why = let can = room why.0 why.1 why.2 why.3 in let some : 1 ≤ why.1 = can.0.some in absurd (omega (arith, some, why.4.1))
 no_tree E setting most count Overflow room why = let can = room why.0 why.1 why.2 why.3 in passes why.4 can
   where
-    passes : {len n : ℕ} → ((((8 ≤ len) × (len ≤ 64)) × (1 ≤ n) × (2 ^ 30 < tree_bytes len n)) ⊎ (CanBeMade len n × (n < count))) → CanBeMade len n × (count ≤ n) → refused_status Overflow ≡ 7
+    passes : {len n : ℕ} → ((((8 ≤ len) × (len ≤ 64)) × (1 ≤ n) × (2 ^ 30 < tree_bytes len n)) ⊎ (CanBeMade len n × (n < count))) → CanBeMade len n × (count ≤ n) → is_excuse Overflow ≡ true
     passes (inl p) can = let few = can.0.bytes in absurd (omega (arith, few, p.2))
     passes (inr p) can = absurd (omega (arith, p.1, can.1))
 no_tree E setting most count (InvalidArgument reason.Header) room why = absurd why
@@ -177,7 +187,7 @@ module _ (C : Cipher) (E : List ℕ → Hashing) (key b : List ℕ) (setting : O
   same : (k : Header) → LaidOut C b k → k ≡ h
   same k laid = says_one b k h laid.says is_file.says
 
-  laid_out : (kind : ErrorKind) → WhyNotLaidOut C b kind → refused_status kind ≡ 7
+  laid_out : (kind : ErrorKind) → WhyNotLaidOut C b kind → is_excuse kind ≡ true
   laid_out Io why = refl
   laid_out (InvalidArgument reason.Header) why = absurd (why h is_file.says)
   laid_out (InvalidArgument reason.AlgorithmMismatch) why = let e = says_one b why.0 h why.1 is_file.says in absurd (why.2 (ap (λ (k : Header). k.algorithm) e ∙ is_file.algorithm))
@@ -209,7 +219,7 @@ module _ (C : Cipher) (E : List ℕ → Hashing) (key b : List ℕ) (setting : O
   unread (inr p) = let odd : true ≡ false = sym (present p.1) ∙ p.2 in (cc)
 
   -- a kind that is no fault of the hasher
-  read : (kind : ErrorKind) → (kind ≡ Hash → ⊥) → WhyNotRead C E key setting most b h kind → refused_status kind ≡ 7
+  read : (kind : ErrorKind) → (kind ≡ Hash → ⊥) → WhyNotRead C E key setting most b h kind → is_excuse kind ≡ true
   read AuthenticationFailed hash why = absurd (unread why.1)
   read Hash hash why = absurd (hash refl)
   read Io hash why = no_tree E setting most (chunk_count h.chunk_size h.file_size) Io room why
@@ -223,12 +233,26 @@ module _ (C : Cipher) (E : List ℕ → Hashing) (key b : List ℕ) (setting : O
   read Rng hash why = absurd why
   read Broken hash why = absurd why
 
-  opened : (kind : ErrorKind) → (kind ≡ Hash → ⊥) → WhyNotOpened C E key setting most b kind → refused_status kind ≡ 7
+  opened : (kind : ErrorKind) → (kind ≡ Hash → ⊥) → WhyNotOpened C E key setting most b kind → is_excuse kind ≡ true
   opened kind hash (inl why) = laid_out kind why
   opened kind hash (inr p) = read kind hash (subst (λ (k : Header). WhyNotRead C E key setting most b k kind) (same p.0 p.1) p.2)
 
 not_hash : (old new : Outside) (kind : ErrorKind) → new.hash_faults ≡ 0 → RefusalFault kind old new → kind ≡ Hash → ⊥
 not_hash old new kind none fault is = let caused : Caused Hash old new = subst (λ (k : ErrorKind). RefusalFault k old new) is fault in no_hash old.hash_faults new.hash_faults none caused.0
+
+excused : (kind : ErrorKind) (old new : Outside) → RefusalFault kind old new → is_excuse kind ≡ true → (refused_status kind ≡ 7) ⊎ ((is_io_kind kind ≡ true) × Rose old.io_faults new.io_faults)
+excused Io old new fault is = inr (refl, fault.0)
+excused OutOfMemory old new fault is = inl refl
+excused (InvalidArgument r) old new fault is = (cc)
+excused AuthenticationFailed old new fault is = (cc)
+excused AlreadyExists old new fault is = (cc)
+excused NotFound old new fault is = (cc)
+excused Overflow old new fault is = (cc)
+excused MerkleNotEnabled old new fault is = (cc)
+excused (CorruptedChunk index) old new fault is = (cc)
+excused Rng old new fault is = (cc)
+excused Hash old new fault is = (cc)
+excused Broken old new fault is = (cc)
 
 -- ---- sessions
 
@@ -236,7 +260,7 @@ outcome_good : (G : Ground) → IsLawful G.cipher → (b : List ℕ) (cs : List 
     → IsValidOn G b cs random → s.most ≡ G.most → s.outside.setting ≡ G.setting → old.setting ≡ G.setting → old.bytes ≡ Some b → old.left ≡ Some random → old.exact ≡ true → new.hash_faults ≡ 0
     → IfErr outcome (λ e. Refusal G.cipher G.answers G.key s cs old new (kind_of e))
     → IfOk outcome (λ replies. Answered (record { cipher = G.cipher; answers = G.answers; setting = s.outside.setting; limit = s.most; key = G.key }) b cs old new replies)
-    → IsGood (outcome_status outcome)
+    → (outcome_status outcome ≡ 0) ⊎ Excused old new outcome
 outcome_good G law b cs random s old new (Ok rs) v most setting own bytes left exact hash refused answered =
     let K : session.Ground = record { cipher = G.cipher; answers = G.answers; setting = G.setting; limit = G.most; key = G.key } in
     let a : Answered K b cs old new rs = rw (← most, ← setting) answered in
@@ -244,33 +268,42 @@ outcome_good G law b cs random s old new (Ok rs) v most setting own bytes left e
     let is : a.file ≡ F = opens_one G.cipher law G.key b a.file F a.opens (opens_of G.cipher law G.key b v.header v.is_file) in
     let run = subst (λ (f : File). Whole K f b cs old new rs ⊎ Faulted K f b cs old new rs) is a.run in
     run_good K F b cs random old new rs run left exact hash v.enough
-outcome_good G law b cs random s old new (Err e) v most setting own bytes left exact hash refused answered = inr (refusal_good refused)
+outcome_good G law b cs random s old new (Err e) v most setting own bytes left exact hash refused answered = refusal_good refused
   where
-    refusal_good : Refusal G.cipher G.answers G.key s cs old new (kind_of e) → refused_status (kind_of e) ≡ 7
+    refusal_good : Refusal G.cipher G.answers G.key s cs old new (kind_of e) → (refused_status (kind_of e) ≡ 0) ⊎ Excused old new (Err e)
     refusal_good (inl p) = let many : 2 ^ 64 ≤ room_total (hash_len_of G.answers G.setting) cs = rw (← setting) p.0 in absurd (omega (arith, many, v.replies))
     refusal_good (inr p) =
         let why : WhyNotOpened G.cipher G.answers G.key G.setting G.most b (kind_of e) = rw (← most, ← own) (p.1.why b bytes) in
-        opened G.cipher G.answers G.key b G.setting G.most v.header v.is_file v.room v.present (kind_of e) (not_hash old new (kind_of e) hash p.1.fault) why
+        inr (excused (kind_of e) old new p.1.fault (opened G.cipher G.answers G.key b G.setting G.most v.header v.is_file v.room v.present (kind_of e) (not_hash old new (kind_of e) hash p.1.fault) why))
 
-served_good : (G : Ground) → IsLawful G.cipher → (b : List ℕ) (cs : List Command) (random : List ℕ) (s : Settings) (old : Outside) (end : End) → Served G s cs old end → IsValidOn G b cs random
-    → s.most ≡ G.most → s.outside.setting ≡ G.setting → old.setting ≡ G.setting → old.bytes ≡ Some b → old.left ≡ Some random → old.exact ≡ true → IsGood (outcome_status end.outcome)
-served_good G law b cs random s old end p v most setting own bytes left exact =
-    outcome_good G law b cs random s old p.after end.outcome v most setting own bytes left exact p.hash p.meets.refused (p.meets.answered b bytes)
+-- what holds of a disk beside a source and a hasher holds of the disk
+pub excused_on : (disk back : Disk) (o new : Outside) (outcome : Result (List Reply) Error) → back ≡ disk_in new → (outcome_status outcome ≡ 0) ⊎ Excused (over disk o) new outcome
+    → (outcome_status outcome ≡ 0) ⊎ IsExcused disk outcome back
+excused_on disk back o new outcome is (inl good) = inl good
+excused_on disk back o new outcome is (inr (inl seven)) = inr (inl seven)
+excused_on disk back o new outcome is (inr (inr io)) = inr (inr (io.0, rw (ap (λ (d : Disk). d.faults) is) io.1))
+
+served_good : (G : Ground) → IsLawful G.cipher → (b : List ℕ) (cs : List Command) (random : List ℕ) (s : Settings) (disk : Disk) (outcome : Result (List Reply) Error) (back : Disk)
+    → Served G s cs disk outcome back → IsValidOn G b cs random → s.most ≡ G.most → s.outside.setting ≡ G.setting → disk.bytes ≡ Some b → s.outside.left ≡ Some random → s.outside.exact ≡ true
+    → (outcome_status outcome ≡ 0) ⊎ IsExcused disk outcome back
+served_good G law b cs random s disk outcome back p v most setting bytes left exact =
+    excused_on disk back s.outside p.after outcome p.handed
+    (outcome_good G law b cs random s (over disk s.outside) p.after outcome v most setting setting bytes left exact p.sure.hash p.meets.refused (p.meets.answered b bytes))
 
 -- ---- new files
 
-not_made : (G : Ground) (size version : ℕ) (cs : List Command) (random : List ℕ) (s : Settings) (new : Outside) (kind : ErrorKind) → IsValidAnew G size version cs random → BuilderOf G s → s.chunk_size ≡ size
-    → s.outside.left ≡ Some random → new.hash_faults ≡ 0 → NotMade G.answers s (over_memory [] s.outside) new kind → refused_status kind ≡ 7
-not_made G size version cs random s new kind v builder is left hash refused = go kind refused.why (not_hash (over_memory [] s.outside) new kind hash refused.fault)
+pub not_made : (G : Ground) (size : ℕ) (random : List ℕ) (s : Settings) (disk : Disk) (new : Outside) (kind : ErrorKind) → CanCreate G size → BuilderOf G s → s.chunk_size ≡ size
+    → s.outside.left ≡ Some random → new.hash_faults ≡ 0 → NotMade G.answers s (over disk s.outside) new kind → ((kind ≡ Rng) × (length random < 32)) ⊎ (is_excuse kind ≡ true)
+not_made G size random s disk new kind can builder is left hash refused = go kind refused.why (not_hash (over disk s.outside) new kind hash refused.fault)
   where
-    tree : (k : ErrorKind) → WhyNoTree G.answers s.outside.setting s.most 0 k → refused_status k ≡ 7
-    tree k why = no_tree G.answers s.outside.setting s.most 0 k (rw (builder.setting, builder.most) v.room) why
+    tree : (k : ErrorKind) → WhyNoTree G.answers s.outside.setting s.most 0 k → ((k ≡ Rng) × (length random < 32)) ⊎ (is_excuse k ≡ true)
+    tree k why = inr (no_tree G.answers s.outside.setting s.most 0 k (rw (builder.setting, builder.most) can.room) why)
 
-    go : (k : ErrorKind) → WhyNotMade G.answers s (over_memory [] s.outside) k → (k ≡ Hash → ⊥) → refused_status k ≡ 7
-    go (InvalidArgument reason.ChunkSize) why other = absurd (why (rw is v.chunk_size))
-    go Io why other = refl
-    go AlreadyExists why other = absurd (why.2 [] refl refl)
-    go Rng why other = let few : length random < 32 = subst (λ (l : Option (List ℕ)). IsShort l 32) left (why.2 builder.exact) in absurd (omega (arith, few, v.id))
+    go : (k : ErrorKind) → WhyNotMade G.answers s (over disk s.outside) k → (k ≡ Hash → ⊥) → ((k ≡ Rng) × (length random < 32)) ⊎ (is_excuse k ≡ true)
+    go (InvalidArgument reason.ChunkSize) why other = absurd (why (rw is can.chunk_size))
+    go Io why other = inr refl
+    go AlreadyExists why other = let odd : true ≡ false = sym builder.truncate ∙ why.1 in (cc)
+    go Rng why other = let few : length random < 32 = subst (λ (l : Option (List ℕ)). IsShort l 32) left (why.2 builder.exact) in inl (refl, few)
     go Hash why other = absurd (other refl)
     go (InvalidArgument reason.Header) why other = tree (InvalidArgument reason.Header) why.1
     go (InvalidArgument reason.UnknownAlgorithm) why other = tree (InvalidArgument reason.UnknownAlgorithm) why.1
@@ -288,22 +321,61 @@ not_made G size version cs random s new kind v builder is left hash refused = go
     go MerkleNotEnabled why other = tree MerkleNotEnabled why.1
     go (CorruptedChunk index) why other = tree (CorruptedChunk index) why.1
     go Broken why other = tree Broken why.1
-    go OutOfMemory why other = refl
+    go OutOfMemory why other = inr refl
 
-anew_good : (G : Ground) → IsLawful G.cipher → (size version : ℕ) (cs : List Command) (random : List ℕ) (s : Settings) (end : End) → G.random ≡ Some random → BuilderOf G s → s.chunk_size ≡ size → s.version ≡ version
-    → IsValidAnew G size version cs random → ServedAnew G s cs end ⊎ RefusedAnew G s end → IsGood (outcome_status end.outcome)
-anew_good G law size version cs random s end told builder is_size is_version v (inl p) =
-    let file = new_file G size version random s p.file is_size is_version (builder.left ∙ told) p.made in
+-- a fault after the file was made is one after the run began
+pub since : (disk : Disk) (file : Outside) (outcome : Result (List Reply) Error) (back : Disk) → file.io_faults ≡ disk.faults → (outcome_status outcome ≡ 0) ⊎ IsExcused (disk_in file) outcome back
+    → (outcome_status outcome ≡ 0) ⊎ IsExcused disk outcome back
+since disk file outcome back same (inl good) = inl good
+since disk file outcome back same (inr (inl seven)) = inr (inl seven)
+since disk file outcome back same (inr (inr io)) = inr (inr (io.0, rw (← same) io.1))
+
+pub refused_on : (disk back : Disk) (o new : Outside) (outcome : Result (List Reply) Error) (e : Error) → outcome ≡ Err e → back ≡ disk_in new → RefusalFault (kind_of e) (over disk o) new → is_excuse (kind_of e) ≡ true
+    → IsExcused disk outcome back
+refused_on disk back o new outcome e is was fault may = go (excused (kind_of e) (over disk o) new fault may)
+  where
+    go : (refused_status (kind_of e) ≡ 7) ⊎ ((is_io_kind (kind_of e) ≡ true) × Rose disk.faults new.io_faults) → IsExcused disk outcome back
+    go (inl seven) = inl (ap outcome_status is ∙ seven)
+    go (inr io) = inr (ap tells_io is ∙ io.0, rw (ap (λ (d : Disk). d.faults) was) io.1)
+
+anew_good : (G : Ground) → IsLawful G.cipher → (size version : ℕ) (cs : List Command) (random b : List ℕ) (s : Settings) (disk : Disk) (outcome : Result (List Reply) Error) (back : Disk) → G.random ≡ Some random
+    → disk.bytes ≡ Some b → BuilderOf G s → s.chunk_size ≡ size → s.version ≡ version → IsValidAnew G size version cs random → ServedAnew G s cs disk outcome back ⊎ RefusedAnew G s disk outcome back
+    → (outcome_status outcome ≡ 0) ⊎ IsExcused disk outcome back
+anew_good G law size version cs random b s disk outcome back told bytes builder is_size is_version v (inl p) =
+    let file = new_file G size version random b s disk p.file is_size is_version (builder.left ∙ told) bytes p.made in
     let exact : p.opener.outside.exact ≡ true = p.exact ∙ p.made.moved.exact ∙ builder.exact in
-    served_good G law (new_header G size version random) cs (drop 32 random) p.opener (over_file p.file.outside p.opener.outside) end p.served v.valid p.hasher.most p.hasher.setting p.hasher.setting
-    file.bytes (p.left ∙ file.left) exact
-anew_good G law size version cs random s end told builder is_size is_version v (inr p) =
-    inr (ap outcome_status p.outcome ∙ not_made G size version cs random s p.after (kind_of p.error) v builder is_size (builder.left ∙ told) p.hash p.refused)
+    since disk p.file.outside outcome back p.made.quiet.io
+    (served_good G law (new_header G size version random) cs (drop 32 random) p.opener (disk_in p.file.outside) outcome back p.served v.valid p.hasher.most p.hasher.setting file.bytes (p.left ∙ file.left) exact)
+anew_good G law size version cs random b s disk outcome back told bytes builder is_size is_version v (inr p) =
+    inr (refused_on disk back s.outside p.after outcome p.error p.refusal p.handed p.refused.fault
+    (may (not_made G size random s disk p.after (kind_of p.error) v.can builder is_size (builder.left ∙ told) p.sure.hash p.refused)))
+  where
+    may : ((kind_of p.error ≡ Rng) × (length random < 32)) ⊎ (is_excuse (kind_of p.error) ≡ true) → is_excuse (kind_of p.error) ≡ true
+    may (inl short) = absurd (omega (arith, short.1, v.id))
+    may (inr is) = is
 
-ends_good : (G : Ground) → IsLawful G.cipher → (start : Start) (cs : List Command) (random : List ℕ) (e : End) → G.random ≡ Some random → IsValid G start cs random → EndsOn G start cs e → IsGood (outcome_status e.outcome)
-ends_good G law (Storage b) cs random e told v p =
-    served_good G law b cs random p.0 (over_memory b p.0.outside) e p.2 v p.1.most p.1.setting p.1.setting refl (p.1.left ∙ told) p.1.exact
-ends_good G law (Create size version) cs random e told v p = anew_good G law size _ cs random p.0 e told p.1 p.2 p.3 v p.4
+ends_good : (G : Ground) → IsLawful G.cipher → (start : Start) (cs : List Command) (random b : List ℕ) (disk : Disk) (outcome : Result (List Reply) Error) (back : Disk) → G.random ≡ Some random → disk.bytes ≡ Some b
+    → IsValid G start cs b random → EndsOn G start cs disk outcome back → (outcome_status outcome ≡ 0) ⊎ IsExcused disk outcome back
+ends_good G law (Storage x) cs random b disk outcome back told bytes v p =
+    served_good G law b cs random p.0 disk outcome back p.2 v p.1.most p.1.setting bytes (p.1.left ∙ told) p.1.exact
+ends_good G law (Create size version) cs random b disk outcome back told bytes v p =
+    anew_good G law size _ cs random b p.0 disk outcome back told bytes p.1 p.2 p.3 v p.4
 
 pub completes : Completes
-completes s bytes e random v p = ends_good (ground_of s) (lawful (variant_of s.algorithm)) s.start s.commands bytes e (ap told_by random) v p
+completes s random b disk back outcome told bytes v p =
+    ends_good (ground_of s) (lawful (variant_of s.algorithm)) s.start s.commands random b disk outcome back (ap told_by told) bytes v p
+
+-- ---- in memory
+
+memory_ends : (o : Result (List Reply) Error) (disk back : Disk) → (outcome_status o ≡ 0) ⊎ IsExcused disk o back → (memory_status o ≡ 0) ⊎ (memory_status o ≡ 7)
+memory_ends o disk back h = go (tells_io o) h
+  where
+    go : (t : Bool) → (outcome_status o ≡ 0) ⊎ ((outcome_status o ≡ 7) ⊎ ((t ≡ true) × Rose disk.faults back.faults)) → ((if t then 7 else outcome_status o) ≡ 0) ⊎ ((if t then 7 else outcome_status o) ≡ 7)
+    go true h = inr refl
+    go false (inl good) = inl good
+    go false (inr (inl seven)) = inr seven
+    go false (inr (inr io)) = let odd : false ≡ true = io.0 in (cc)
+
+pub completes_in_memory : CompletesInMemory
+completes_in_memory s random e told v p =
+    memory_ends e.outcome (memory_of (first_bytes s.start)) p.0 (completes s random (first_bytes s.start) (memory_of (first_bytes s.start)) p.0 e.outcome told refl v p.1)

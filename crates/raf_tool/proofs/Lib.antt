@@ -5,3 +5,6 @@ pub mod RunningLemmas
 pub mod AnswerLemmas
 pub mod OneText
 pub mod Completeness
+pub mod ShortRandom
+pub mod PlainFiles
+pub mod DemoLemmas

@@ -1,6 +1,6 @@
--- Two runs of one script that end with status 0 have the same replies and leave the same storage, where the random bytes are told.
-use Rattle.std.proofs.Common.{◌≡◌, ℕ, ◌-◌, List, [], ◌∷◌, ◌++◌, length, take, drop, Option, Some, None, Result, Ok, Err, refl, sym, ap, ◌∙◌, arith, subst, inl, inr}
-use Rattle.std.specs.Prelude.{◌⊎◌, IfOk, slice_get}
+-- Two runs of one script that end with status 0 have the same replies and leave the same bytes, where the random bytes are told.
+use Rattle.std.proofs.Common.{◌≡◌, ℕ, ◌-◌, List, [], ◌∷◌, ◌++◌, length, take, drop, Option, Some, None, Result, Ok, Err, Bool, true, false, ◌≤◌, refl, sym, ap, ◌∙◌, arith, subst, inl, inr}
+use Rattle.std.specs.Prelude.{◌⊎◌, IfOk, if◌then◌else◌, slice_get}
 use Rattle.std.proofs.Math.Seq.{take-append_seam}
 use Rattle.std.proofs.lemmas.List.{drop_at, length-append}
 use Rattle.raf_format.specs.Cipher.{IsLawful}
@@ -30,10 +30,11 @@ use Rattle.raf.specs.declared.command.Reply.{Reply}
 use Rattle.raf.specs.declared.command.Reply.TheVariants.{Refused}
 use Rattle.raf_script.specs.declared.script.Start.{Start}
 use Rattle.raf_script.specs.declared.script.Start.TheVariants.{Storage, Create}
-use Rattle.raf_tool.specs.Ends.{Ground, BuilderOf, Served, ServedAnew, RefusedAnew, EndsOn, ground_of, told_by, over_memory, over_file}
+use Rattle.raf_tool.specs.Disk.{Disk, memory_of, over, disk_in}
+use Rattle.raf_tool.specs.Ends.{Ground, BuilderOf, Served, ServedAnew, RefusedAnew, EndsOn, EndsInMemory, ground_of, told_by, first_bytes}
 use Rattle.raf_tool.specs.Text.{end_text}
-use Rattle.raf_tool.specs.Run.{outcome_status, last_status, refused_status}
-use Rattle.raf_tool.specs.Laws.{OneText}
+use Rattle.raf_tool.specs.Run.{outcome_status, memory_status, tells_io, last_status, refused_status}
+use Rattle.raf_tool.specs.Laws.{OneEnd, OneText, new_header}
 use Rattle.raf_tool.specs.declared.answer.End.{End}
 
 -- ---- the replies that are due are those of one list
@@ -138,83 +139,108 @@ answered_one G law b cs random old new old' new' rs ss left left' h h' p q =
     let run = subst (λ (F : File). Whole G F b cs old' new' ss ⊎ Faulted G F b cs old' new' ss) same q.run in
     whole_one G p.file b cs random old new old' new' rs ss left left' (whole_of G p.file b cs old new rs h p.run) (whole_of G p.file b cs old' new' ss h' run)
 
--- an end with replies
-record Replied (G : Ground) (b : List ℕ) (cs : List Command) (random : List ℕ) (end : End) : Type 0 where
+-- a run with replies
+record Replied (G : Ground) (b : List ℕ) (cs : List Command) (random : List ℕ) (outcome : Result (List Reply) Error) (back : Disk) : Type 0 where
   replies : List Reply
-  outcome : end.outcome ≡ Ok replies
+  is : outcome ≡ Ok replies
   old : Outside
   new : Outside
   left : old.left ≡ Some random
   quiet : last_status (slice_get replies (length replies - 1)) ≡ 0
   answered : Answered (record { cipher = G.cipher; answers = G.answers; setting = G.setting; limit = G.most; key = G.key }) b cs old new replies
-  storage : new.bytes ≡ Some end.storage
+  bytes : back.bytes ≡ new.bytes
 
-some_same : {X : Type 0} {x y : X} → ◌≡◌ {A = Option X} (Some x) (Some y) → x ≡ y
-some_same h = (cc)
-
-replied_one : (G : Ground) → IsLawful G.cipher → (b : List ℕ) (cs : List Command) (random : List ℕ) (e f : End) → Replied G b cs random e → Replied G b cs random f → end_text e ≡ end_text f
-replied_one G law b cs random e f p q =
+replied_one : (G : Ground) → IsLawful G.cipher → (b : List ℕ) (cs : List Command) (random : List ℕ) (o o' : Result (List Reply) Error) (back back' : Disk)
+    → Replied G b cs random o back → Replied G b cs random o' back' → (o ≡ o') × (back.bytes ≡ back'.bytes)
+replied_one G law b cs random o o' back back' p q =
     let one = answered_one (record { cipher = G.cipher; answers = G.answers; setting = G.setting; limit = G.most; key = G.key }) law b cs random p.old p.new q.old q.new p.replies q.replies p.left q.left p.quiet q.quiet p.answered q.answered in
-    let outcome : e.outcome ≡ f.outcome = p.outcome ∙ ap (λ (rs : List Reply). Ok rs) one.0 ∙ sym q.outcome in
-    let storage : e.storage ≡ f.storage = some_same (sym p.storage ∙ one.1 ∙ q.storage) in
-    λ i. end_text (record { outcome = outcome i; storage = storage i })
+    (p.is ∙ ap (λ (rs : List Reply). Ok rs) one.0 ∙ sym q.is, p.bytes ∙ one.1 ∙ sym q.bytes)
 
--- ---- ends
+-- ---- runs
 
-replied_by : (G : Ground) (b : List ℕ) (cs : List Command) (random : List ℕ) (s : Settings) (old new : Outside) (end : End) (outcome : Result (List Reply) Error) → end.outcome ≡ outcome
+replied_by : (G : Ground) (b : List ℕ) (cs : List Command) (random : List ℕ) (s : Settings) (old new : Outside) (outcome : Result (List Reply) Error) (back : Disk)
     → s.most ≡ G.most → s.outside.setting ≡ G.setting → old.left ≡ Some random → outcome_status outcome ≡ 0
     → IfOk outcome (λ replies. Answered (record { cipher = G.cipher; answers = G.answers; setting = s.outside.setting; limit = s.most; key = G.key }) b cs old new replies)
-    → new.bytes ≡ Some end.storage → Replied G b cs random end
-replied_by G b cs random s old new end (Ok rs) is most setting left h answered storage = record {
+    → back ≡ disk_in new → Replied G b cs random outcome back
+replied_by G b cs random s old new (Ok rs) back most setting left h answered disk = record {
   replies = rs;
-  outcome = is;
+  is = refl;
   old = old;
   new = new;
   left = left;
   quiet = h;
   answered = rw (← most, ← setting) answered;
-  storage = storage;
+  bytes = ap (λ (d : Disk). d.bytes) disk;
 }
-replied_by G b cs random s old new end (Err e) is most setting left h answered storage = absurd (refusal_told (kind_of e) h)
+replied_by G b cs random s old new (Err e) back most setting left h answered disk = absurd (refusal_told (kind_of e) h)
 
-served_replied : (G : Ground) (b : List ℕ) (cs : List Command) (random : List ℕ) (s : Settings) (old : Outside) (end : End) → Served G s cs old end → s.most ≡ G.most → s.outside.setting ≡ G.setting
-    → old.bytes ≡ Some b → old.left ≡ Some random → outcome_status end.outcome ≡ 0 → Replied G b cs random end
-served_replied G b cs random s old end p most setting bytes left h =
-    replied_by G b cs random s old p.after end end.outcome refl most setting left h (p.meets.answered b bytes) p.storage
+served_replied : (G : Ground) (b : List ℕ) (cs : List Command) (random : List ℕ) (s : Settings) (disk : Disk) (outcome : Result (List Reply) Error) (back : Disk) → Served G s cs disk outcome back
+    → s.most ≡ G.most → s.outside.setting ≡ G.setting → disk.bytes ≡ Some b → s.outside.left ≡ Some random → outcome_status outcome ≡ 0 → Replied G b cs random outcome back
+served_replied G b cs random s disk outcome back p most setting bytes left h =
+    replied_by G b cs random s (over disk s.outside) p.after outcome back most setting left h (p.meets.answered b bytes) p.handed
 
 -- a new file, from the random bytes
 pub record NewFile (G : Ground) (size version : ℕ) (random : List ℕ) (file : Handle) : Type 0 where
-  pub bytes : file.outside.bytes ≡ Some (sealed_header G.cipher G.key (record { version = version; algorithm = G.cipher.id; chunk_size = size; file_size = 0; id = take 32 random }))
+  pub id : 32 ≤ length random
+  pub bytes : file.outside.bytes ≡ Some (new_header G size version random)
   pub left : file.outside.left ≡ Some (drop 32 random)
 
-pub new_file : (G : Ground) (size version : ℕ) (random : List ℕ) (s : Settings) (file : Handle) → s.chunk_size ≡ size → s.version ≡ version → s.outside.left ≡ Some random
-    → Made G.cipher G.answers G.key s (over_memory [] s.outside) file → NewFile G size version random file
-new_file G size version random s file is_size is_version left made =
-    let held = (made.holds [] refl).1 in
-    let drawn = taken_so_many 32 random file.header.id file.outside.left held.is_file.says.fields.id (subst (λ (l : Option (List ℕ)). Takes l file.header.id file.outside.left) left made.taken) in
+pub new_file : (G : Ground) (size version : ℕ) (random b : List ℕ) (s : Settings) (disk : Disk) (file : Handle) → s.chunk_size ≡ size → s.version ≡ version → s.outside.left ≡ Some random → disk.bytes ≡ Some b
+    → Made G.cipher G.answers G.key s (over disk s.outside) file → NewFile G size version random file
+new_file G size version random b s disk file is_size is_version left bytes made =
+    let held = (made.holds b bytes).1 in
+    let taken = subst (λ (l : Option (List ℕ)). Takes l file.header.id file.outside.left) left made.taken in
+    let drawn = taken_so_many 32 random file.header.id file.outside.left held.is_file.says.fields.id taken in
     let header : file.header ≡ record { version = version; algorithm = G.cipher.id; chunk_size = size; file_size = 0; id = take 32 random } =
     made.header ∙ (λ i. record { version = is_version i; algorithm = G.cipher.id; chunk_size = is_size i; file_size = 0; id = drawn.0 i }) in
-    record { bytes = made.bytes [] refl ∙ ap (λ (h : Header). Some (sealed_header G.cipher G.key h)) header; left = drawn.1 }
+    record {
+      id = enough random file.header.id file.outside.left held.is_file.says.fields.id taken;
+      bytes = made.bytes b bytes ∙ ap (λ (h : Header). Some (sealed_header G.cipher G.key h)) header;
+      left = drawn.1;
+    }
+  where
+    enough : (random got : List ℕ) (left : Option (List ℕ)) → length got ≡ 32 → Takes (Some random) got left → 32 ≤ length random
+    enough random got None long t = absurd t
+    enough random got (Some rest) long t = omega (arith, ap length t, length-append got rest, long)
 
-anew_replied : (G : Ground) (size version : ℕ) (cs : List Command) (random : List ℕ) (s : Settings) (end : End) → G.random ≡ Some random → BuilderOf G s → s.chunk_size ≡ size → s.version ≡ version
-    → outcome_status end.outcome ≡ 0 → ServedAnew G s cs end ⊎ RefusedAnew G s end
-    → Replied G (sealed_header G.cipher G.key (record { version = version; algorithm = G.cipher.id; chunk_size = size; file_size = 0; id = take 32 random })) cs (drop 32 random) end
-anew_replied G size version cs random s end told builder is_size is_version h (inl p) =
-    let file = new_file G size version random s p.file is_size is_version (builder.left ∙ told) p.made in
-    served_replied G (sealed_header G.cipher G.key (record { version = version; algorithm = G.cipher.id; chunk_size = size; file_size = 0; id = take 32 random })) cs (drop 32 random) p.opener
-    (over_file p.file.outside p.opener.outside) end p.served p.hasher.most p.hasher.setting file.bytes (p.left ∙ file.left) h
-anew_replied G size version cs random s end told builder is_size is_version h (inr p) = absurd (refusal_told (kind_of p.error) (ap outcome_status (sym p.outcome) ∙ h))
+anew_replied : (G : Ground) (size version : ℕ) (cs : List Command) (random b : List ℕ) (s : Settings) (disk : Disk) (outcome : Result (List Reply) Error) (back : Disk) → G.random ≡ Some random → disk.bytes ≡ Some b
+    → BuilderOf G s → s.chunk_size ≡ size → s.version ≡ version → outcome_status outcome ≡ 0 → ServedAnew G s cs disk outcome back ⊎ RefusedAnew G s disk outcome back
+    → Replied G (new_header G size version random) cs (drop 32 random) outcome back
+anew_replied G size version cs random b s disk outcome back told bytes builder is_size is_version h (inl p) =
+    let file = new_file G size version random b s disk p.file is_size is_version (builder.left ∙ told) bytes p.made in
+    served_replied G (new_header G size version random) cs (drop 32 random) p.opener (disk_in p.file.outside) outcome back p.served p.hasher.most p.hasher.setting file.bytes (p.left ∙ file.left) h
+anew_replied G size version cs random b s disk outcome back told bytes builder is_size is_version h (inr p) = absurd (refusal_told (kind_of p.error) (ap outcome_status (sym p.refusal) ∙ h))
 
-ends_one : (G : Ground) → IsLawful G.cipher → (start : Start) (cs : List Command) (random : List ℕ) (e f : End) → G.random ≡ Some random → EndsOn G start cs e → EndsOn G start cs f
-    → outcome_status e.outcome ≡ 0 → outcome_status f.outcome ≡ 0 → end_text e ≡ end_text f
-ends_one G law (Storage b) cs random e f told p q h k =
-    replied_one G law b cs random e f
-    (served_replied G b cs random p.0 (over_memory b p.0.outside) e p.2 p.1.most p.1.setting refl (p.1.left ∙ told) h)
-    (served_replied G b cs random q.0 (over_memory b q.0.outside) f q.2 q.1.most q.1.setting refl (q.1.left ∙ told) k)
-ends_one G law (Create size v) cs random e f told p q h k =
-    replied_one G law _ cs (drop 32 random) e f
-    (anew_replied G size _ cs random p.0 e told p.1 p.2 p.3 h p.4)
-    (anew_replied G size _ cs random q.0 f told q.1 q.2 q.3 k q.4)
+ends_one : (G : Ground) → IsLawful G.cipher → (start : Start) (cs : List Command) (random b : List ℕ) (disk disk' back back' : Disk) (o o' : Result (List Reply) Error) → G.random ≡ Some random
+    → disk.bytes ≡ Some b → disk'.bytes ≡ Some b → EndsOn G start cs disk o back → EndsOn G start cs disk' o' back' → outcome_status o ≡ 0 → outcome_status o' ≡ 0 → (o ≡ o') × (back.bytes ≡ back'.bytes)
+ends_one G law (Storage x) cs random b disk disk' back back' o o' told is is' p q h k =
+    replied_one G law b cs random o o' back back'
+    (served_replied G b cs random p.0 disk o back p.2 p.1.most p.1.setting is (p.1.left ∙ told) h)
+    (served_replied G b cs random q.0 disk' o' back' q.2 q.1.most q.1.setting is' (q.1.left ∙ told) k)
+ends_one G law (Create size v) cs random b disk disk' back back' o o' told is is' p q h k =
+    replied_one G law _ cs (drop 32 random) o o' back back'
+    (anew_replied G size _ cs random b p.0 disk o back told is p.1 p.2 p.3 h p.4)
+    (anew_replied G size _ cs random b q.0 disk' o' back' told is' q.1 q.2 q.3 k q.4)
+
+pub one_end : OneEnd
+one_end s random b disk disk' back back' o o' told is is' p q h k =
+    ends_one (ground_of s) (lawful (variant_of s.algorithm)) s.start s.commands random b disk disk' back back' o o' (ap told_by told) is is' p q h k
+
+-- ---- in memory
+
+pub memory_good : (o : Result (List Reply) Error) → memory_status o ≡ 0 → outcome_status o ≡ 0
+memory_good o h = go (tells_io o) h
+  where
+    go : (t : Bool) → (if t then 7 else outcome_status o) ≡ 0 → outcome_status o ≡ 0
+    go true h = absurd (omega (arith, h))
+    go false h = h
+
+some_same : {X : Type 0} {x y : X} → ◌≡◌ {A = Option X} (Some x) (Some y) → x ≡ y
+some_same h = (cc)
 
 pub one_text : OneText
-one_text s bytes e f random p q h k = ends_one (ground_of s) (lawful (variant_of s.algorithm)) s.start s.commands bytes e f (ap told_by random) p q h k
+one_text s random e f told p q h k =
+    let one = one_end s random (first_bytes s.start) (memory_of (first_bytes s.start)) (memory_of (first_bytes s.start)) p.0 q.0 e.outcome f.outcome told refl refl p.1 q.1
+    (memory_good e.outcome h) (memory_good f.outcome k) in
+    let storage : e.storage ≡ f.storage = some_same (sym p.2 ∙ one.1 ∙ q.2) in
+    λ i. end_text (record { outcome = one.0 i; storage = storage i })

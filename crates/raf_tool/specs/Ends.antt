@@ -1,5 +1,5 @@
 -- How a run over a script's content may end (this project's own).
-use Rattle.std.specs.Prelude.{◌≡◌, ◌⊎◌, [], ℕ, true, false, List, Option, Some, None, Err}
+use Rattle.std.specs.Prelude.{◌≡◌, ◌⊎◌, [], ℕ, true, List, Option, Some, None, Result, Err}
 use Rattle.raf_format.specs.Cipher.{Cipher, cipher_of}
 use Rattle.raf_format.specs.Numbers.{variant_of}
 use Rattle.raf_format.specs.Version.{version_number}
@@ -7,16 +7,18 @@ use Rattle.raf_io.specs.Kinds.{kind_of}
 use Rattle.raf_io.specs.declared.errors.Error.{Error}
 use Rattle.raf_tree.specs.Hashing.{Hashing, zeros}
 use Rattle.raf_tree.specs.Sha.{sha_hashing}
-use Rattle.raf.specs.Outside.{Outside, over_storage}
+use Rattle.raf.specs.Outside.{Outside}
 use Rattle.raf.specs.Handle.{Handle}
 use Rattle.raf.specs.Opening.{Settings, Made, NotMade}
 use Rattle.raf.specs.Session.{Meets}
 use Rattle.raf.specs.declared.command.Command.{Command}
+use Rattle.raf.specs.declared.command.Reply.{Reply}
 use Rattle.raf_script.specs.declared.script.Randomness.{Randomness}
 use Rattle.raf_script.specs.declared.script.Randomness.TheVariants.{Random, Seed}
 use Rattle.raf_script.specs.declared.script.Start.{Start}
 use Rattle.raf_script.specs.declared.script.Start.TheVariants.{Storage, Create}
 use Rattle.raf_script.specs.declared.script.Script.{Script}
+use Rattle.raf_tool.specs.Disk.{Disk, memory_of, over, disk_in}
 use Rattle.raf_tool.specs.declared.answer.End.{End}
 
 -- what a file stands on: its algorithm and key; the hasher's answers; the most chunks of its tree and the hasher's setting, where there is
@@ -58,9 +60,10 @@ pub record HasherOf (G : Ground) (b : Settings) : Type 0 where
   pub most : b.most ≡ G.most
   pub setting : b.outside.setting ≡ G.setting
 
--- a builder with the ground's hasher and random source, which was asked nothing, and fails only where it tells fewer bytes than are asked
+-- a builder with the ground's hasher and random source, which was asked nothing, and fails only where it tells fewer bytes than are asked.
+-- A new file takes the place of what the storage holds
 pub record BuilderOf (G : Ground) (b : Settings) : Type 0 where
-  pub truncate : b.truncate ≡ false
+  pub truncate : b.truncate ≡ true
   pub most : b.most ≡ G.most
   pub setting : b.outside.setting ≡ G.setting
   pub left : b.outside.left ≡ G.random
@@ -68,48 +71,59 @@ pub record BuilderOf (G : Ground) (b : Settings) : Type 0 where
   pub asked : b.outside.asked ≡ 0
   pub exact : b.outside.exact ≡ true
 
--- memory that holds these bytes, none of them durable, of which nothing was asked, beside this source and hasher
-abbrev pub over_memory : List ℕ → Outside → Outside
-over_memory bytes o = over_storage (Some bytes) (Some []) 0 0 0 0 0 o
+-- no hasher has failed, and no random source that doesn't tell its bytes
+pub record IsSure (G : Ground) (o : Outside) : Type 0 where
+  pub hash : o.hash_faults ≡ 0
+  pub rng : G.random ≡ None → o.rng_faults ≡ 0
 
--- a file's storage, beside the source and the hasher of a builder
-abbrev pub over_file : Outside → Outside → Outside
-over_file file o = over_storage file.bytes file.durable file.io_faults file.reach file.traffic file.changes file.strays o
-
--- a session by a builder, over this storage, may end so: its outcome meets what is proved of sessions, no hasher has failed, and these are
--- the bytes that the storage was handed back with
-pub record Served (G : Ground) (b : Settings) (commands : List Command) (before : Outside) (end : End) : Type 0 where
+-- a session by a builder, over this disk, may end so: its outcome meets what is proved of sessions, and the disk is handed back like this
+pub record Served (G : Ground) (b : Settings) (commands : List Command) (disk : Disk) (outcome : Result (List Reply) Error) (back : Disk) : Type 0 where
   pub after : Outside
-  pub meets : Meets G.cipher G.answers G.key b commands before after end.outcome
-  pub hash : after.hash_faults ≡ 0
-  pub storage : after.bytes ≡ Some end.storage
+  pub meets : Meets G.cipher G.answers G.key b commands (over disk b.outside) after outcome
+  pub sure : IsSure G after
+  pub handed : back ≡ disk_in after
 
 -- a file was made, and a session served on its storage, with what its random source had left
-pub record ServedAnew (G : Ground) (b : Settings) (commands : List Command) (end : End) : Type 0 where
+pub record ServedAnew (G : Ground) (b : Settings) (commands : List Command) (disk : Disk) (outcome : Result (List Reply) Error) (back : Disk) : Type 0 where
   pub file : Handle
-  pub made : Made G.cipher G.answers G.key b (over_memory [] b.outside) file
+  pub made : Made G.cipher G.answers G.key b (over disk b.outside) file
   pub opener : Settings
   pub hasher : HasherOf G opener
   pub left : opener.outside.left ≡ file.outside.left
   pub rng_faults : opener.outside.rng_faults ≡ file.outside.rng_faults
   pub asked : opener.outside.asked ≡ file.outside.asked
   pub exact : opener.outside.exact ≡ file.outside.exact
-  pub served : Served G opener commands (over_file file.outside opener.outside) end
+  pub served : Served G opener commands (disk_in file.outside) outcome back
 
 -- no file was made, and that is the outcome
-pub record RefusedAnew (G : Ground) (b : Settings) (end : End) : Type 0 where
+pub record RefusedAnew (G : Ground) (b : Settings) (disk : Disk) (outcome : Result (List Reply) Error) (back : Disk) : Type 0 where
   pub after : Outside
   pub error : Error
-  pub outcome : end.outcome ≡ Err error
-  pub refused : NotMade G.answers b (over_memory [] b.outside) after (kind_of error)
-  pub hash : after.hash_faults ≡ 0
-  pub storage : after.bytes ≡ Some end.storage
+  pub refusal : outcome ≡ Err error
+  pub refused : NotMade G.answers b (over disk b.outside) after (kind_of error)
+  pub sure : IsSure G after
+  pub handed : back ≡ disk_in after
 
--- how a run of these commands may end: over the storage's bytes, or over those of a file that is made first, unless that is refused
-abbrev pub EndsOn : Ground → Start → List Command → End → Type 0
-EndsOn G (Storage bytes) commands end = (b : Settings) × BuilderOf G b × Served G b commands (over_memory bytes b.outside) end
-EndsOn G (Create size version) commands end =
-    (b : Settings) × BuilderOf G b × (b.chunk_size ≡ size) × (b.version ≡ version_number version) × (ServedAnew G b commands end ⊎ RefusedAnew G b end)
+-- how a run of these commands may end: over what the disk holds, or over a file that is made there first, unless that is refused
+abbrev pub EndsOn : Ground → Start → List Command → Disk → Result (List Reply) Error → Disk → Type 0
+EndsOn G (Storage bytes) commands disk outcome back = (b : Settings) × BuilderOf G b × Served G b commands disk outcome back
+EndsOn G (Create size version) commands disk outcome back =
+    (b : Settings) × BuilderOf G b × (b.chunk_size ≡ size) × (b.version ≡ version_number version)
+    × (ServedAnew G b commands disk outcome back ⊎ RefusedAnew G b disk outcome back)
 
-abbrev pub Ends : Script → End → Type 0
-Ends s end = EndsOn (ground_of s) s.start s.commands end
+abbrev pub Ends : Script → Disk → Result (List Reply) Error → Disk → Type 0
+Ends s disk outcome back = EndsOn (ground_of s) s.start s.commands disk outcome back
+
+-- what memory holds at first
+abbrev pub first_bytes : Start → List ℕ
+first_bytes (Storage bytes) = bytes
+first_bytes (Create size version) = []
+
+-- the same start, of which the bytes were taken
+abbrev pub without_bytes : Start → Start
+without_bytes (Storage bytes) = Storage []
+without_bytes (Create size version) = Create size version
+
+-- how a run in memory may end, with the bytes that the storage was handed back with
+abbrev pub EndsInMemory : Script → End → Type 0
+EndsInMemory s end = (back : Disk) × Ends s (memory_of (first_bytes s.start)) end.outcome back × (back.bytes ≡ Some end.storage)

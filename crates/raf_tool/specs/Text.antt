@@ -15,6 +15,7 @@ use Rattle.raf.specs.declared.command.Reply.{Reply}
 use Rattle.raf.specs.declared.command.Reply.TheVariants as replies
 use Rattle.raf_tool.specs.Streams.{AppendsPrefix, TellsAsBefore}
 use Rattle.raf_tool.specs.declared.answer.End.{End}
+use Rattle.raf_tool.specs.declared.answer.Report.{Report}
 
 -- the word for a reason
 abbrev pub reason_word : Reason → List ℕ
@@ -81,6 +82,12 @@ outcome_text (Err e) = line (codes "error ") (word (kind_of e))
 -- the outcome, and then the bytes that the storage was handed back with
 abbrev pub end_text : End → List ℕ
 end_text end = outcome_text end.outcome ++ line (codes "storage ") (hex_word end.storage)
+
+-- the four lines of the demo
+abbrev pub report_text : Report → List ℕ
+report_text r =
+    line (codes "size ") (decimal r.size) ++ line (codes "sum ") (decimal r.sum) ++ line (codes "storage ") (decimal r.storage)
+    ++ codes "verified\n"
 
 -- a text went to a sink: all of it, or a prefix of it, and the sink failed
 pub record Puts {E : Type 0} (old new : Option (List ℕ)) (before now : ℕ) (result : Result Unit E) (text : List ℕ) : Type 0 where

@@ -1,9 +1,14 @@
-//! The program `raf_tool`: a script of commands over an encrypted file, in, and its replies, out.
+//! The program `raf_tool`: a script of commands over an encrypted file, in memory or on a disk, in, and its replies, out.
 #![tactic(auto)]
 
 mod answer;
+mod demo;
+#[cfg(test)]
+mod demos;
 #[cfg(test)]
 mod examples;
+#[cfg(test)]
+mod filed;
 mod memory;
 #[cfg(test)]
 mod names;
@@ -17,20 +22,25 @@ mod sealed;
 mod seed;
 mod standard;
 mod streams;
+mod telling;
 #[cfg(test)]
 mod tests;
 #[cfg(test)]
 mod trial;
 mod whole;
+mod words;
 #[cfg(test)]
 mod wrong;
 
-use aegis::raf::MemIo;
-use program::{Words, run};
+use program::run;
+use raf_os::FileIo;
 use standard::{ReadSource, WriteSink};
 use std::alloc::AllocError;
+use std::fs::File;
 use std::process::ExitCode;
+use std::rt::Files;
 use std::{env, io};
+use words::Words;
 
 // The words after the program's name. Words that are no text are a form of none, so none of them are kept.
 fn words_of(rt: &HostRuntime) -> Result<Words, AllocError> {
@@ -47,12 +57,18 @@ fn words_of(rt: &HostRuntime) -> Result<Words, AllocError> {
     }
 }
 
+// The disk that the words ask for. A file is made where there is none; where the host refuses, there is no disk.
+fn disk_of<F: Files<File = File>>(rt: &F, words: &Words) -> Option<FileIo> {
+    FileIo::create(rt, words.path()?).ok()
+}
+
 fn main(rt: HostRuntime) -> ExitCode {
     let Ok(words) = words_of(&rt) else {
         return ExitCode::from(7);
     };
+    let disk = disk_of(&rt, &words);
     let mut source = ReadSource::new(rt.reader());
     let mut sink = WriteSink::new(io::writer(&rt));
-    let ran = run(rt.alloc(), &words, &mut source, &mut sink, None::<MemIo>);
+    let ran = run(rt.alloc(), &words, &mut source, &mut sink, disk);
     ExitCode::from(ran.status)
 }

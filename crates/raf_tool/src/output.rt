@@ -1,16 +1,16 @@
 //! The reply text into a sink. Nothing here takes memory.
-ghost use Rattle.std.specs.Prelude.{◌≡◌, ◌+◌, ◌*◌, ◌≤◌, ◌<◌, length, decimal, ℕ, List};
+ghost use Rattle.std.specs.Prelude.{◌≡◌, ◌+◌, ◌*◌, ◌≤◌, ◌<◌, codes, length, decimal, ℕ, List};
 ghost use Rattle.std.specs.List.{flat_map};
 ghost use Rattle.hex.specs.Hex.{encode_lower};
 ghost use Rattle.raf.specs.Due.{is_fault};
 ghost use Rattle.raf.specs.declared.command.Reply.TheVariants as replies;
 ghost use Rattle.raf_tool.specs.Text as spec;
-ghost use Rattle.raf_tool.specs.Text.{Puts, line, hex_word, reply_line, refused_line, word, end_text, outcome_text, item_at};
+ghost use Rattle.raf_tool.specs.Text.{Puts, line, hex_word, reply_line, refused_line, word, end_text, outcome_text, item_at, report_text};
 
-use crate::answer::End;
+use crate::answer::{End, Report};
 use crate::streams::{Failed, Sink};
 use crate::whole::write_whole;
-use aegis::raf::{ErrorKind, Reason, Replies, Reply};
+use aegis::raf::{Data, Error, ErrorKind, Reason, Replies, Reply};
 use itoa::Buffer;
 
 /// How many bytes become hex digits at once, on the stack.
@@ -194,19 +194,36 @@ fn put_replies<K: Sink>(sink: &mut K, replies: &Replies) -> Result<(), Failed>
     Ok(())
 }
 
-fn put_outcome<K: Sink>(sink: &mut K, end: &End) -> Result<(), Failed>
-    ensures { Puts (K.written sink.old) (K.written sink.new) (K.faults sink.old) (K.faults sink.new) result (outcome_text end.now.outcome) }
+/// The replies or the refusal.
+pub fn put_outcome<K: Sink>(sink: &mut K, outcome: &Result<Replies, Error>) -> Result<(), Failed>
+    ensures { Puts (K.written sink.old) (K.written sink.new) (K.faults sink.old) (K.faults sink.new) result (outcome_text outcome.now) }
 {
-    match &end.outcome {
+    match outcome {
         Ok(replies) => put_replies(sink, replies),
         Err(error) => put_word(sink, b"error ", error.kind()),
     }
+}
+
+fn put_storage<K: Sink>(sink: &mut K, storage: &Data) -> Result<(), Failed>
+    ensures { Puts (K.written sink.old) (K.written sink.new) (K.faults sink.old) (K.faults sink.new) result (line (codes "storage ") (hex_word storage.now)) }
+{
+    put_bytes(sink, b"storage ", storage.as_slice())
 }
 
 /// The replies or the refusal, and then the storage line.
 pub fn put_end<K: Sink>(sink: &mut K, end: &End) -> Result<(), Failed>
     ensures { Puts (K.written sink.old) (K.written sink.new) (K.faults sink.old) (K.faults sink.new) result (end_text end.now) }
 {
-    put_outcome(sink, end)?;
-    put_bytes(sink, b"storage ", end.storage.as_slice())
+    put_outcome(sink, &end.outcome)?;
+    put_storage(sink, &end.storage)
+}
+
+/// The four lines of the demo.
+pub fn put_report<K: Sink>(sink: &mut K, report: &Report) -> Result<(), Failed>
+    ensures { Puts (K.written sink.old) (K.written sink.new) (K.faults sink.old) (K.faults sink.new) result (report_text report.now) }
+{
+    put_number(sink, b"size ", report.size)?;
+    put_number(sink, b"sum ", report.sum)?;
+    put_number(sink, b"storage ", report.storage)?;
+    put(sink, b"verified\n")
 }

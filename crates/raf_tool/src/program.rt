@@ -1,168 +1,169 @@
-//! The top call: the words and a script in, replies and a status out.
-ghost use Rattle.std.specs.Prelude.{◌≡◌, ◌+◌, ◌-◌, ◌^◌, List, ℕ, map, string_bytes, length, slice_get};
+//! The top call: words, a script and a disk in, replies and a status out.
+ghost use Rattle.std.specs.Prelude.{◌≡◌, ◌+◌, ◌≤◌, ◌^◌, Some, IfOk, IfErr};
 ghost use Rattle.raf_tool.specs.Streams.{ConsumesAtMost};
-ghost use Rattle.raf_tool.specs.Text.{Puts};
-ghost use Rattle.raf_tool.specs.Laws.{OneText, Completes};
-ghost use Rattle.raf_tool.specs.Run as spec;
-ghost use Rattle.raf_tool.specs.Run.{IsDue, Runs, status_of, text_of, outcome_status, refused_status, last_status, is_form, is_io};
+ghost use Rattle.raf_tool.specs.Words.{form_of};
+ghost use Rattle.raf_tool.specs.Disk.{disk_of};
+ghost use Rattle.raf_tool.specs.Laws.{OneEnd, OneText, Completes, CompletesInMemory, RunsShort};
+ghost use Rattle.raf_tool.specs.Run.{IsDue, Runs, HasRead, WhyUnread, IsDemo};
 
-use crate::answer::{Answer, End};
-use crate::output::{put, put_end, put_number};
-use crate::running::run_script;
+use crate::answer::Answer;
+use crate::demo::run_demo;
+use crate::running::{Ended, run_in_memory, run_script};
 use crate::streams::{Failed, Sink, Source};
+use crate::telling::{put_answer, status};
 use crate::whole::{ReadError, read_whole};
-use aegis::raf::{Error, ErrorKind, RafIo, Replies, Reply};
-use raf_script::{ScriptError, parse};
+use crate::words::{Form, Words};
+use aegis::raf::RafIo;
+use raf_script::{Medium, Script, ScriptError, parse};
 use std::alloc::Global;
-use std::marker::Model;
 
 /// A script has at most this many bytes.
 const MOST: usize = 1 << 26;
 
-/// The words after the program's name.
-#[derive(Drop)]
-pub struct Words {
-    words: Vec<String>,
-}
-
-impl Model for Words {
-    ghost Value = { List (List ℕ) };
-
-    ghost view = { λ w. map string_bytes w.words.items };
-}
-
-impl Words {
-    /// These words.
-    pub fn new(words: Vec<String>) -> Words
-        ensures { result ≡ map string_bytes words.items }
-    {
-        Words { words }
-    }
-
-    fn is_form(&self) -> bool
-        ensures { result ≡ is_form self.now }
-    {
-        self.words.len() == 1 && self.words[0].as_str() == "script"
-    }
-}
-
-/// How a run ended: its status, and the disk that it was handed, as it came.
+/// How a run ended: its status, and the disk that it was handed.
 #[derive(Drop)]
 pub struct Ran<I> {
-    /// The exit status, 0 to 7, as [`run`] lists them.
+    /// The exit status, 0 to 8, as [`run`] lists them.
     pub status: u8,
-    /// The disk that was handed in, if any.
+    /// The disk that was handed in, if any: as the script's commands leave it, or, where none were run over it, as it came.
     pub disk: Option<I>,
 }
 
-// What there is to answer, and why.
-fn answer<S: Source>(alloc: Global, words: &Words, source: &mut S) -> Answer
-    ensures due { IsDue (record { form = is_form words.now; left = S.left source.old; after = S.left source.new; faults = S.faults source.old; faults_after = S.faults source.new }) result }
+// What there is to answer, and the disk.
+#[derive(Drop)]
+struct Due<I> {
+    answer: Answer,
+    disk: Option<I>,
+}
+
+// The script that a source holds, or the answer where it holds none.
+fn read_script<S: Source>(alloc: Global, source: &mut S, medium: Medium) -> Result<Script, Answer>
+    ensures script { IfOk result (HasRead medium (S.left source.old) (S.left source.new) (S.faults source.old) (S.faults source.new)) }
+    ensures answer { IfErr result (WhyUnread medium (S.left source.old) (S.faults source.old) (S.faults source.new)) }
     ensures most { ConsumesAtMost (S.left source.old) (S.left source.new) (2 ^ 26 + 1) }
 {
-    if !words.is_form() {
-        return Answer::Usage;
-    }
     let text = match read_whole(alloc, source, MOST) {
         Ok(text) => text,
-        Err(ReadError::Failed) => return Answer::ReadFault,
-        Err(ReadError::TooLong) => return Answer::Long,
-        Err(ReadError::OutOfMemory) => return Answer::OutOfMemory,
+        Err(ReadError::Failed) => return Err(Answer::ReadFault),
+        Err(ReadError::TooLong) => return Err(Answer::Long),
+        Err(ReadError::OutOfMemory) => return Err(Answer::OutOfMemory),
     };
-    match parse(alloc, &text) {
-        Ok(script) => Answer::Ended(run_script(alloc, script)),
-        Err(ScriptError::Line(number)) => Answer::Wrong(number),
-        Err(ScriptError::OutOfMemory) => Answer::OutOfMemory,
+    match parse(alloc, &text, medium) {
+        Ok(script) => Ok(script),
+        Err(ScriptError::Line(number)) => Err(Answer::Wrong(number)),
+        Err(ScriptError::OutOfMemory) => Err(Answer::OutOfMemory),
     }
 }
 
-fn is_io(reply: &Reply) -> bool
-    ensures { result ≡ spec.is_io reply.now }
+fn answer_script<S: Source, I: RafIo>(alloc: Global, source: &mut S, disk: Option<I>) -> Due<I>
+    ensures due { IsDue (record {
+      form = Some Form.Script;
+      left = S.left source.old;
+      after = S.left source.new;
+      faults = S.faults source.old;
+      faults_after = S.faults source.new;
+      disk = disk;
+      back = result.disk;
+      see = disk_of I.bytes I.durable I.faults I.reach I.traffic I.changes I.strays;
+    }) result.answer }
+    ensures most { ConsumesAtMost (S.left source.old) (S.left source.new) (2 ^ 26 + 1) }
 {
-    matches!(reply, Reply::Refused(ErrorKind::Io))
+    let answer = match read_script(alloc, source, Medium::Memory) {
+        Ok(script) => Answer::Ended(run_in_memory(alloc, script)),
+        Err(answer) => answer,
+    };
+    Due { answer, disk }
 }
 
-fn reply_status(reply: &Reply) -> u8
-    ensures { result ≡ last_status (Some reply.now) }
+fn answer_file<S: Source, I: RafIo>(alloc: Global, source: &mut S, io: I) -> Due<I>
+    ensures due { IsDue (record {
+      form = Some Form.File;
+      left = S.left source.old;
+      after = S.left source.new;
+      faults = S.faults source.old;
+      faults_after = S.faults source.new;
+      disk = Some io;
+      back = result.disk;
+      see = disk_of I.bytes I.durable I.faults I.reach I.traffic I.changes I.strays;
+    }) result.answer }
+    ensures most { ConsumesAtMost (S.left source.old) (S.left source.new) (2 ^ 26 + 1) }
 {
-    if is_io(reply) {
-        7
-    } else if reply.is_fault() {
-        4
-    } else {
-        0
-    }
-}
-
-// The status after these replies, which the last one decides.
-fn replies_status(replies: &Replies) -> u8
-    ensures { result ≡ last_status (slice_get replies.now (length replies.now - 1)) }
-{
-    match replies.get(replies.len().saturating_sub(1)) {
-        None => 0,
-        Some(reply) => reply_status(reply),
-    }
-}
-
-fn refused_status(kind: ErrorKind) -> u8
-    ensures { result ≡ spec.refused_status kind }
-{
-    match kind {
-        ErrorKind::Io | ErrorKind::OutOfMemory => 7,
-        _ => 3,
-    }
-}
-
-fn outcome_status(outcome: &Result<Replies, Error>) -> u8
-    ensures { result ≡ spec.outcome_status outcome.now }
-{
-    match outcome {
-        Ok(replies) => replies_status(replies),
-        Err(error) => refused_status(error.kind()),
-    }
-}
-
-fn status(answer: &Answer) -> u8
-    ensures { result ≡ status_of answer.now }
-{
-    match answer {
-        Answer::Usage => 1,
-        Answer::ReadFault => 5,
-        Answer::Long | Answer::Wrong(_) => 2,
-        Answer::OutOfMemory => 7,
-        Answer::Ended(end) => outcome_status(&end.outcome),
-    }
-}
-
-// The text of an answer. It takes no memory.
-fn put_answer<K: Sink>(sink: &mut K, answer: &Answer) -> Result<(), Failed>
-    ensures { Puts (K.written sink.old) (K.written sink.new) (K.faults sink.old) (K.faults sink.new) result (text_of answer.now) }
-{
-    match answer {
-        Answer::Usage => put(sink, b"usage: raf_tool script\n"),
-        Answer::ReadFault => put(sink, b""),
-        Answer::Long => put(sink, b"script long\n"),
-        Answer::Wrong(number) => put_number(sink, b"script line ", *number),
-        Answer::OutOfMemory => put(sink, b""),
-        Answer::Ended(end) => {
-            if outcome_status(&end.outcome) == 7 {
-                put(sink, b"")
-            } else {
-                put_end(sink, end)
+    match read_script(alloc, source, Medium::Disk) {
+        Ok(script) => {
+            let Ended { outcome, io } = run_script::<I>(alloc, script, io);
+            Due {
+                answer: Answer::Filed(outcome),
+                disk: Some(io),
             }
         }
+        Err(answer) => Due {
+            answer,
+            disk: Some(io),
+        },
     }
 }
 
-/// All that the program does: it reads a script from the source to its end, runs its commands over the
-/// script's storage, and writes the replies and the storage to the sink. It answers the status, and hands the disk back.
+fn answer_demo(alloc: Global, writes: u64) -> Answer
+    requires { writes ≤ 1000 }
+    ensures { IsDemo writes result }
+{
+    match run_demo(alloc, writes) {
+        Some(report) => Answer::Shown(report),
+        None => Answer::OutOfMemory,
+    }
+}
+
+// What there is to answer, and why.
+fn answer<S: Source, I: RafIo>(
+    alloc: Global,
+    words: &Words,
+    source: &mut S,
+    disk: Option<I>,
+) -> Due<I>
+    ensures due { IsDue (record {
+      form = form_of words.now;
+      left = S.left source.old;
+      after = S.left source.new;
+      faults = S.faults source.old;
+      faults_after = S.faults source.new;
+      disk = disk;
+      back = result.disk;
+      see = disk_of I.bytes I.durable I.faults I.reach I.traffic I.changes I.strays;
+    }) result.answer }
+    ensures most { ConsumesAtMost (S.left source.old) (S.left source.new) (2 ^ 26 + 1) }
+{
+    match words.form() {
+        None => Due {
+            answer: Answer::Usage,
+            disk,
+        },
+        Some(Form::Script) => answer_script::<S, I>(alloc, source, disk),
+        Some(Form::Demo(writes)) => Due {
+            answer: answer_demo(alloc, writes),
+            disk,
+        },
+        Some(Form::File) => match disk {
+            Some(io) => answer_file::<S, I>(alloc, source, io),
+            None => Due {
+                answer: Answer::NoDisk,
+                disk: None,
+            },
+        },
+    }
+}
+
+/// All that the program does. By the word `script` it reads a script from the source to its end, runs its commands over the script's
+/// storage in memory, and writes the replies and the storage to the sink. By `file <path>` it does so over the disk that is handed in,
+/// and writes the replies alone. By `demo <n>` it runs stated commands with so many writes in memory, 0 to 1000, reads nothing, and
+/// writes what they leave. It answers the status, and hands the disk back.
 ///
 /// | status | where, the first that stands |
 /// |---|---|
-/// | 1 | the words aren't `script` |
+/// | 1 | the words are none of these |
+/// | 8 | `file` and no disk |
 /// | 5 | the source failed |
 /// | 2 | the source has more than 2^26 bytes, or they are no script: the text names the first wrong line |
-/// | 7 | no memory was found |
+/// | 7 | no memory was found, be it by the program or by a storage in memory, whose fault that is |
 /// | 3 | the file was refused, as it was made or opened |
 /// | 4 | the last reply is a fault |
 /// | 0 | else |
@@ -174,16 +175,28 @@ pub fn run<S: Source, K: Sink, I: RafIo>(
     sink: &mut K,
     disk: Option<I>,
 ) -> Ran<I>
-    ensures run { Runs (record { form = is_form words.now; left = S.left source.old; after = S.left source.new; faults = S.faults source.old; faults_after = S.faults source.new })
+    ensures run { Runs (record {
+      form = form_of words.now;
+      left = S.left source.old;
+      after = S.left source.new;
+      faults = S.faults source.old;
+      faults_after = S.faults source.new;
+      disk = disk;
+      back = result.disk;
+      see = disk_of I.bytes I.durable I.faults I.reach I.traffic I.changes I.strays;
+    })
         result.status (K.written sink.old) (K.written sink.new) (K.faults sink.old) (K.faults sink.new) }
     ensures most { ConsumesAtMost (S.left source.old) (S.left source.new) (2 ^ 26 + 1) }
-    ensures disk { result.disk ≡ disk }
-    // With told random bytes, what is written with status 0 is one function of the script.
+    // With told random bytes and a disk that tells, what is left and written with status 0 is one function of the script and the disk.
+    ensures one_end { OneEnd }
     ensures one_text { OneText }
-    // With told random bytes that are enough, a script whose file is there or can be made ends with status 0, or 7.
+    // With told random bytes that are enough, a script whose file is there or can be made ends with status 0, or 7, or the disk failed.
     ensures completes { Completes }
+    ensures completes_in_memory { CompletesInMemory }
+    // The random source fails exactly where its told bytes run out.
+    ensures runs_short { RunsShort }
 {
-    let answer = answer(alloc, words, source);
+    let Due { answer, disk } = answer::<S, I>(alloc, words, source, disk);
     let status = match put_answer(sink, &answer) {
         Ok(()) => status(&answer),
         Err(Failed) => 6,

@@ -1,8 +1,9 @@
 //! Whole scripts, with their texts and statuses. The bytes of storages and the commitments are those of an independent program.
 
 use crate::memory::{VecSink, VecSource};
-use crate::program::{Words, run};
+use crate::program::run;
 use crate::trial::{HEAD, gives, joined};
+use crate::words::Words;
 use aegis::raf::MemIo;
 use std::alloc::{AllocError, Global};
 use std::process::Abort;

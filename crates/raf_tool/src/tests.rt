@@ -1,10 +1,10 @@
 //! Runs of the program: its usage, and what a failing source or sink leaves.
 
 use crate::memory::{VecSink, VecSource};
-use crate::program::{Words, run};
+use crate::program::run;
 use crate::standard::{ReadSource, WriteSink};
 use crate::streams::{Failed, Sink, Source};
-use crate::trial::joined;
+use crate::trial::{joined, words_of};
 use aegis::raf::{Aegis128L, Header, MemIo, write_header};
 use std::alloc::{AllocError, Global};
 use std::io;
@@ -24,14 +24,6 @@ const EMPTY: &str =
 /// The storage after `hello` was written to it under a nonce of zeros, by the same program.
 const HELLO: &str =
     "5345414c524146310101000010000000050000000000000000000000000000000000000000000000000000000000000000000000000000000000000000000000a5664ba3d35ac5ed4c863b24c615742176d82a4d5726b38cd2862e502dac78f500000000000000000000000000000000c7f46a6cec37f9e3ab8e3953847baedd37ffeb2289";
-
-fn words(alloc: Global, words: &[&str]) -> Result<Words, AllocError> {
-    let mut list = Vec::new(alloc);
-    for word in words {
-        list.push(String::from_str(alloc, word)?)?;
-    }
-    Ok(Words::new(list))
-}
 
 // A run: what its script has after the fourth line, its replies, and the storage afterwards.
 struct Case {
@@ -65,7 +57,7 @@ fn status_of<S: Source>(
     source: &mut S,
     sink: &mut VecSink,
 ) -> Result<u8, AllocError> {
-    let words = words(alloc, &["script"])?;
+    let words = words_of(alloc, &["script"])?;
     Ok(run(alloc, &words, source, sink, None::<MemIo>).status)
 }
 
@@ -89,20 +81,49 @@ fn gives_usage(alloc: Global, list: &[&str]) -> Result<bool, AllocError> {
     let mut source = VecSource::new(Vec::new(alloc), vec![in alloc; 0]?);
     let mut sink = VecSink::new(alloc, Vec::new(alloc));
     let disk = Some(MemIo::new(alloc, vec![in alloc; 7]?, Vec::new(alloc)));
-    let ran = run(alloc, &words(alloc, list)?, &mut source, &mut sink, disk);
-    let told = ran.status == 1 && sink.written() == b"usage: raf_tool script\n".as_slice();
+    let ran = run(alloc, &words_of(alloc, list)?, &mut source, &mut sink, disk);
+    let told = ran.status == 1
+        && sink.written() == b"usage: raf_tool script | demo <n> | file <path>\n".as_slice();
     match &ran.disk {
         Some(disk) => Ok(told && disk.bytes() == [7].as_slice()),
         None => Ok(false),
     }
 }
 
+const NO_FORMS: [&[&str]; 12] = [
+    &[],
+    &["scripts"],
+    &["script", "x"],
+    &["demo"],
+    &["demo", "1001"],
+    &["demo", "007"],
+    &["demo", "+7"],
+    &["demo", "x"],
+    &["demo", "1", "2"],
+    &["file"],
+    &["file", "a", "b"],
+    &["File", "a"],
+];
+
 #[test]
 fn words_that_are_no_form_give_the_usage(rt: HostRuntime) -> Result<(), Fail> {
     let alloc = rt.alloc();
-    assert!(rt; gives_usage(alloc, &[])?);
-    assert!(rt; gives_usage(alloc, &["scripts"])?);
-    assert!(rt; gives_usage(alloc, &["script", "x"])?);
+    for list in &NO_FORMS {
+        assert!(rt; gives_usage(alloc, list)?);
+    }
+    Ok(())
+}
+
+#[test]
+fn a_script_over_no_disk_is_not_read(rt: HostRuntime) -> Result<(), Fail> {
+    let alloc = rt.alloc();
+    let mut source = VecSource::new(Vec::new(alloc), vec![in alloc; 0]?);
+    let mut sink = VecSink::new(alloc, Vec::new(alloc));
+    let words = words_of(alloc, &["file", "x"])?;
+    let ran = run(alloc, &words, &mut source, &mut sink, None::<MemIo>);
+    assert_eq!(rt; ran.status, 8);
+    assert!(rt; sink.written() == b"no disk\n".as_slice());
+    assert!(rt; ran.disk.is_none());
     Ok(())
 }
 

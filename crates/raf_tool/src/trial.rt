@@ -1,7 +1,8 @@
 //! What the tests of whole scripts share.
 
 use crate::memory::{VecSink, VecSource};
-use crate::program::{Words, run};
+use crate::program::run;
+use crate::words::Words;
 use aegis::raf::MemIo;
 use std::alloc::{AllocError, Global};
 use std::process::Abort;
@@ -19,6 +20,15 @@ pub fn joined(alloc: Global, pieces: &[&str]) -> Result<Vec<u8>, AllocError> {
     Ok(text)
 }
 
+/// These words.
+pub fn words_of(alloc: Global, words: &[&str]) -> Result<Words, AllocError> {
+    let mut list = Vec::new(alloc);
+    for word in words {
+        list.push(String::from_str(alloc, word)?)?;
+    }
+    Ok(Words::new(list))
+}
+
 /// The script gives this text and this status.
 pub fn gives(
     rt: &impl Abort,
@@ -28,7 +38,7 @@ pub fn gives(
     status: u8,
     name: &str,
 ) -> Result<(), Fail> {
-    let words = Words::new(vec![in alloc; String::from_str(alloc, "script")?]?);
+    let words = words_of(alloc, &["script"])?;
     let mut source = VecSource::new(script, Vec::new(alloc));
     let mut sink = VecSink::new(alloc, Vec::new(alloc));
     let ran = run(alloc, &words, &mut source, &mut sink, None::<MemIo>);

@@ -2,4 +2,4 @@ use Rattle.raf_tool.proofs.PutLemmas.{puts_then}
 use Rattle.raf_tool.proofs.output.put_end.Goals as goal
 
 pub returns : goal.returns
-returns g c = puts_then c.in_ok-put_outcome.ensures (rw c.as_slice.ensures at c.put_bytes.ensures)
+returns g c = puts_then c.in_ok-put_outcome.ensures c.put_storage.ensures
