@@ -10,7 +10,9 @@ use std::test::Fail;
 fn at_a_path(rt: HostRuntime) -> Result<(), Fail> {
     let (alloc, key, path) = (rt.alloc(), [7; 32], "first_page.raf");
     let rng = VecRng::new(Vec::from_elem(alloc, 5, 64)?);
-    let mut file = match Raf::<Aegis256, FileIo, _, NoMerkle>::create_file(&rt, alloc, path, &key, rng) {
+    let mut file = match Raf::<Aegis256, FileIo, _, NoMerkle>::create_file(
+        &rt, alloc, path, &key, rng,
+    ) {
         Ok(file) => file,
         Err(refused) => return Err(refused.error.into()),
     };
@@ -18,7 +20,9 @@ fn at_a_path(rt: HostRuntime) -> Result<(), Fail> {
     file.sync()?;
     let rng = file.close().rng;
 
-    let mut file = match Raf::<Aegis256, FileIo, _, NoMerkle>::open_file(&rt, alloc, path, &key, rng) {
+    let mut file = match Raf::<Aegis256, FileIo, _, NoMerkle>::open_file(
+        &rt, alloc, path, &key, rng,
+    ) {
         Ok(file) => file,
         Err(refused) => return Err(refused.error.into()),
     };
@@ -60,9 +64,18 @@ fn by_a_list_of_commands(rt: HostRuntime) -> Result<(), Fail> {
         Err(refused) => return Err(refused.error.into()),
     };
     let mut commands = Vec::new(alloc);
-    commands.push(Command::Write { offset: 7, bytes: Data::from_vec(b"entry".to_vec(alloc)?) })?;
+    commands.push(Command::Write {
+        offset: 7,
+        bytes: Data::from_vec(b"entry".to_vec(alloc)?),
+    })?;
     commands.push(Command::Size)?;
-    let end = session(alloc, RafBuilder::<Aegis256, _, NoMerkle>::new(rng), io, &key, &commands);
+    let end = session(
+        alloc,
+        RafBuilder::<Aegis256, _, NoMerkle>::new(rng),
+        io,
+        &key,
+        &commands,
+    );
     let replies = end.outcome?;
     assert!(rt; matches!(replies.get(0), Some(Reply::Wrote(5))));
     assert!(rt; matches!(replies.get(1), Some(Reply::Size(12))));

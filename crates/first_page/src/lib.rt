@@ -1,8 +1,8 @@
 //! The examples of the repository's first page, word for word, run. `docs/check` compares the two texts.
 #![tactic(auto)]
 
-mod generic;
 #[cfg(test)]
 mod ciphers;
 #[cfg(test)]
 mod files;
+mod generic;
