@@ -1,44 +1,44 @@
 -- The lanes in use of the AEGIS-256 family, one case for each count.
-use Rattle.std.proofs.Common.{◌≡◌, ◌⊎◌, ℕ, ◌*◌, ◌≤◌, List, [], ◌∷◌, ◌++◌, length, take, drop, refl, sym, ap, ◌∙◌, arith, subst, inl, inr, length-drop}
-use Rattle.std.proofs.lemmas.List.{take_all}
+use Rattle.std.proofs.Common.{◌≡◌, ◌⊎◌, ℕ, ◌*◌, ◌≤◌, List, [], ◌++◌, length, take, drop, refl, sym, ap, ◌∙◌, arith, subst, inl, inr, length-drop}
+use Rattle.std.proofs.lemmas.List.{take_all, take_at, drop_at}
 use Rattle.std.specs.List.{flat_map}
-use Rattle.aegis_core.specs.Blocks.{block_at}
 use Rattle.aegis_core.specs.Lanes.{Lane, State, Block, lanes_from, xor_all}
 use Rattle.aegis_core.specs.Lanes256.{update_lane_256, update_lanes_256, update_256, initial_256, initial_halves_256, low_three, high_three, all_six, tag_of_256}
-use Rattle.aegis_core.specs.Held.{lane_count, used_lanes}
+use Rattle.aegis_core.specs.Held.{lane_count, used_lanes, used_bytes}
 use Rattle.aegis_core.specs.declared.lane_count.LaneCount.{LaneCount}
 use Rattle.aegis_core.specs.declared.lane_count.LaneCount.TheVariants.{One, Two, Four}
+use Rattle.aegis_core.proofs.RowLemmas.{block_0, block_1, block_2, block_3}
 
 pub rate_le : (k : LaneCount) → 16 * lane_count k ≤ 128
 rate_le One = omega arith
 rate_le Two = omega arith
 rate_le Four = omega arith
 
--- an updated lane, with the block under another name
-pub updated : (x a : Lane) (p q : Block) → x ≡ update_lane_256 a p → p ≡ q → x ≡ update_lane_256 a q
-updated x a p q e ep = e ∙ ap (λ (v : Block). update_lane_256 a v) ep
+-- ---- an update with a row of blocks
 
-pub one_updated : (k : LaneCount) (a b c d x : Lane) (t : List ℕ) → k ≡ One → x ≡ update_lane_256 a (block_at 16 t 0)
-    → used_lanes k x b c d ≡ update_256 (used_lanes k a b c d) t
+pub one_updated : (k : LaneCount) (a b c d x : Lane) (p p1 p2 p3 : Block) → k ≡ One → x ≡ update_lane_256 a p → length p ≡ 16
+    → used_lanes k x b c d ≡ update_256 (used_lanes k a b c d) (used_bytes k p p1 p2 p3)
 unfolding update_lanes_256
-one_updated k a b c d x t h e =
-    let P : LaneCount → Type 0 = λ j. used_lanes j x b c d ≡ update_256 (used_lanes j a b c d) t in
-    subst P (sym h) (ap (λ (v : Lane). v ∷ []) e)
+one_updated k a b c d x p p1 p2 p3 h e lp =
+    let P : LaneCount → Type 0 = λ j. used_lanes j x b c d ≡ update_256 (used_lanes j a b c d) (used_bytes j p p1 p2 p3) in
+    let bp : take 16 p ≡ p = take_all 16 p (omega arith) in
+    subst P (sym h) (rw (bp, e) refl)
 
-pub two_updated : (k : LaneCount) (a b c d x y : Lane) (t : List ℕ) → k ≡ Two → x ≡ update_lane_256 a (block_at 16 t 0)
-    → y ≡ update_lane_256 b (block_at 16 t 1) → used_lanes k x y c d ≡ update_256 (used_lanes k a b c d) t
+pub two_updated : (k : LaneCount) (a b c d x y : Lane) (p p1 p2 p3 : Block) → k ≡ Two → x ≡ update_lane_256 a p → y ≡ update_lane_256 b p1
+    → length p ≡ 16 → length p1 ≡ 16 → used_lanes k x y c d ≡ update_256 (used_lanes k a b c d) (used_bytes k p p1 p2 p3)
 unfolding update_lanes_256
-two_updated k a b c d x y t h e f =
-    let P : LaneCount → Type 0 = λ j. used_lanes j x y c d ≡ update_256 (used_lanes j a b c d) t in
-    subst P (sym h) (rw (e, f) refl)
+two_updated k a b c d x y p p1 p2 p3 h e f lp lp1 =
+    let P : LaneCount → Type 0 = λ j. used_lanes j x y c d ≡ update_256 (used_lanes j a b c d) (used_bytes j p p1 p2 p3) in
+    let tail : take 16 (drop 16 (p ++ p1)) ≡ p1 = ap (λ (u : List ℕ). take 16 u) (drop_at p p1 16 lp) ∙ take_all 16 p1 (omega arith) in
+    subst P (sym h) (rw (take_at p p1 16 lp, tail, e, f) refl)
 
-pub four_updated : (k : LaneCount) (a b c d x y z w : Lane) (t : List ℕ) → k ≡ Four → x ≡ update_lane_256 a (block_at 16 t 0)
-    → y ≡ update_lane_256 b (block_at 16 t 1) → z ≡ update_lane_256 c (block_at 16 t 2) → w ≡ update_lane_256 d (block_at 16 t 3)
-    → used_lanes k x y z w ≡ update_256 (used_lanes k a b c d) t
+pub four_updated : (k : LaneCount) (a b c d x y z w : Lane) (p p1 p2 p3 : Block) → k ≡ Four → x ≡ update_lane_256 a p → y ≡ update_lane_256 b p1
+    → z ≡ update_lane_256 c p2 → w ≡ update_lane_256 d p3 → length p ≡ 16 → length p1 ≡ 16 → length p2 ≡ 16 → length p3 ≡ 16
+    → used_lanes k x y z w ≡ update_256 (used_lanes k a b c d) (used_bytes k p p1 p2 p3)
 unfolding update_lanes_256
-four_updated k a b c d x y z w t h e f i j =
-    let P : LaneCount → Type 0 = λ n. used_lanes n x y z w ≡ update_256 (used_lanes n a b c d) t in
-    subst P (sym h) (rw (e, f, i, j) refl)
+four_updated k a b c d x y z w p p1 p2 p3 h e f g i lp lp1 lp2 lp3 =
+    let P : LaneCount → Type 0 = λ j. used_lanes j x y z w ≡ update_256 (used_lanes j a b c d) (used_bytes j p p1 p2 p3) in
+    subst P (sym h) (rw (block_0 p p1 p2 p3 lp, block_1 p p1 p2 p3 lp lp1, block_2 p p1 p2 p3 lp lp1 lp2, block_3 p p1 p2 p3 lp lp1 lp2 lp3, e, f, g, i) refl)
 
 -- the halves of 32 bytes, as blocks
 pub low_half : (key p : List ℕ) → p ≡ take 16 (drop 0 key) → p ≡ take 16 key

@@ -79,6 +79,9 @@ four_put k out a b c d h l e =
 
 -- ---- and blocks read one after the other
 
+pub sixteen : (xs b : List ℕ) (at : ℕ) → at + 16 ≤ length xs → b ≡ take 16 (drop at xs) → length b ≡ 16
+sixteen xs b at room e = ap length e ∙ length-take-le 16 (drop at xs) (omega (arith, length-drop at xs))
+
 pub one_read : (k : LaneCount) (xs a b c d : List ℕ) → k ≡ One → length xs ≡ 16 * lane_count k → a ≡ take 16 (drop 0 xs) → used_bytes k a b c d ≡ xs
 one_read k xs a b c d h l ea =
     let P : LaneCount → Type 0 = λ j. length xs ≡ 16 * lane_count j → used_bytes j a b c d ≡ xs in
@@ -120,12 +123,37 @@ four_added k xs now a b c d h l ln e =
     let P : LaneCount → Type 0 = λ j. length xs ≡ 16 * lane_count j → (now ≡ xor_bytes xs (used_bytes j a b c d)) × (length (used_bytes j a b c d) ≡ length xs) in
     subst P (sym h) (λ n. both xs (((a ++ b) ++ c) ++ d) now 64 n ln e) l
 
+-- ---- the blocks of a row by their places
+
+pub block_0 : (a b c d : Block) → length a ≡ 16 → take 16 (((a ++ b) ++ c) ++ d) ≡ a
+block_0 a b c d la = simp append_assoc (take_at a (b ++ (c ++ d)) 16 la)
+
+pub block_1 : (a b c d : Block) → length a ≡ 16 → length b ≡ 16 → take 16 (drop 16 (((a ++ b) ++ c) ++ d)) ≡ b
+block_1 a b c d la lb =
+    let e : ((a ++ b) ++ c) ++ d ≡ a ++ (b ++ (c ++ d)) = simp append_assoc refl in
+    ap (λ (v : List ℕ). take 16 (drop 16 v)) e ∙ ap (λ (v : List ℕ). take 16 v) (drop_at a (b ++ (c ++ d)) 16 la) ∙ take_at b (c ++ d) 16 lb
+
+pub block_2 : (a b c d : Block) → length a ≡ 16 → length b ≡ 16 → length c ≡ 16 → take 16 (drop 32 (((a ++ b) ++ c) ++ d)) ≡ c
+block_2 a b c d la lb lc =
+    let e : ((a ++ b) ++ c) ++ d ≡ (a ++ b) ++ (c ++ d) = append_assoc (a ++ b) c d in
+    let l : length (a ++ b) ≡ 32 = omega (arith, length-append a b) in
+    ap (λ (v : List ℕ). take 16 (drop 32 v)) e ∙ ap (λ (v : List ℕ). take 16 v) (drop_at (a ++ b) (c ++ d) 32 l) ∙ take_at c d 16 lc
+
+pub block_3 : (a b c d : Block) → length a ≡ 16 → length b ≡ 16 → length c ≡ 16 → length d ≡ 16 → take 16 (drop 48 (((a ++ b) ++ c) ++ d)) ≡ d
+block_3 a b c d la lb lc ld =
+    let l : length ((a ++ b) ++ c) ≡ 48 = omega (arith, length-append (a ++ b) c, length-append a b) in
+    ap (λ (v : List ℕ). take 16 v) (drop_at ((a ++ b) ++ c) d 48 l) ∙ take_all 16 d (omega arith)
+
 -- the row of a function's blocks
-pub row_flat : (f : Lane → Block) (k : LaneCount) (a b c d : Lane) (p q r s : Block) → p ≡ f a → q ≡ f b → r ≡ f c → s ≡ f d
+flat : (f : Lane → Block) (k : LaneCount) (a b c d : Lane) (p q r s : Block) → p ≡ f a → q ≡ f b → r ≡ f c → s ≡ f d
     → used_bytes k p q r s ≡ flat_map f (used_lanes k a b c d)
-row_flat f One a b c d p q r s ea eb ec ed = ea ∙ sym (append-nil (f a))
-row_flat f Two a b c d p q r s ea eb ec ed = rw (ea, eb) (simp append-nil refl)
-row_flat f Four a b c d p q r s ea eb ec ed = rw (ea, eb, ec, ed) (simp (append-nil, append_assoc) refl)
+flat f One a b c d p q r s ea eb ec ed = ea ∙ sym (append-nil (f a))
+flat f Two a b c d p q r s ea eb ec ed = rw (ea, eb) (simp append-nil refl)
+flat f Four a b c d p q r s ea eb ec ed = rw (ea, eb, ec, ed) (simp (append-nil, append_assoc) refl)
+
+pub row_flat : (f : Lane → Block) (j k : LaneCount) (a b c d : Lane) (p q r s : Block) → j ≡ k → p ≡ f a → q ≡ f b → r ≡ f c → s ≡ f d
+    → used_bytes j p q r s ≡ flat_map f (used_lanes k a b c d)
+row_flat f j k a b c d p q r s e ea eb ec ed = ap (λ (i : LaneCount). used_bytes i p q r s) e ∙ flat f k a b c d p q r s ea eb ec ed
 
 -- ---- two rows, each in its half
 
@@ -150,10 +178,10 @@ halves_put out x y h lo lx =
     let gone : drop k (drop h e) ≡ [] = ap (λ (v : List ℕ). drop k v) back ∙ drop_all k rest (omega arith) in
     ap (λ (v : List ℕ). v ++ (y ++ drop k (drop h e))) front ∙ ap (λ (v : List ℕ). x ++ (y ++ v)) gone ∙ ap (λ (v : List ℕ). x ++ v) (append-nil y)
 
-pub halves_added : (old j k x y : List ℕ) (h : ℕ) → length old ≡ h + h → x ≡ xor_bytes (take h old) j → length j ≡ length (take h old)
-    → y ≡ xor_bytes (take (length (x ++ drop h old) - h) (drop h (x ++ drop h old))) k
-    → put_mid h (length (x ++ drop h old) - h) (x ++ drop h old) y ≡ xor_bytes old (j ++ k)
-halves_added old j k x y h lo ex lj ey =
+pub halves_added : (old j k a b x y : List ℕ) (h : ℕ) → length old ≡ h + h → x ≡ xor_bytes (take h old) j → length j ≡ length (take h old)
+    → y ≡ xor_bytes (take (length (x ++ drop h old) - h) (drop h (x ++ drop h old))) k → j ≡ a → k ≡ b
+    → put_mid h (length (x ++ drop h old) - h) (x ++ drop h old) y ≡ xor_bytes old (a ++ b)
+halves_added old j k a b x y h lo ex lj ey ea eb =
     let lt : length (take h old) ≡ h = length-take-le h old (omega arith) in
     let lx : length x ≡ h = ap length ex ∙ length-on_bytes _ (take h old) j ∙ lt in
     let rest : List ℕ = drop h old in
@@ -161,16 +189,18 @@ halves_added old j k x y h lo ex lj ey =
     let ey2 : y ≡ xor_bytes rest k = ey ∙ ap (λ (v : List ℕ). xor_bytes v k) (take_rest (x ++ rest) h ∙ back) in
     halves_put old x y h lo lx ∙ ap (λ (v : List ℕ). v ++ y) ex ∙ ap (λ (v : List ℕ). xor_bytes (take h old) j ++ v) ey2
     ∙ sym (on_bytes-append _ (take h old) rest j k (sym lj)) ∙ ap (λ (v : List ℕ). xor_bytes v (j ++ k)) (take-append-drop h old)
+    ∙ ap (λ (v : List ℕ). xor_bytes old (v ++ k)) ea ∙ ap (λ (v : List ℕ). xor_bytes old (a ++ v)) eb
 
-pub halves_summed : (from old j k x y : List ℕ) (h : ℕ) → length from ≡ h + h → length old ≡ h + h → x ≡ xor_bytes (take h from) j → length j ≡ length (take h from)
-    → y ≡ xor_bytes (take (length from - h) (drop h from)) k
-    → put_mid h (length (x ++ drop h old) - h) (x ++ drop h old) y ≡ xor_bytes from (j ++ k)
-halves_summed from old j k x y h lf lo ex lj ey =
+pub halves_summed : (from old j k a b x y : List ℕ) (h : ℕ) → length from ≡ h + h → length old ≡ h + h → x ≡ xor_bytes (take h from) j → length j ≡ length (take h from)
+    → y ≡ xor_bytes (take (length from - h) (drop h from)) k → j ≡ a → k ≡ b
+    → put_mid h (length (x ++ drop h old) - h) (x ++ drop h old) y ≡ xor_bytes from (a ++ b)
+halves_summed from old j k a b x y h lf lo ex lj ey ea eb =
     let lt : length (take h from) ≡ h = length-take-le h from (omega arith) in
     let lx : length x ≡ h = ap length ex ∙ length-on_bytes _ (take h from) j ∙ lt in
     let ey2 : y ≡ xor_bytes (drop h from) k = ey ∙ ap (λ (v : List ℕ). xor_bytes v k) (take_rest from h) in
     halves_put old x y h lo lx ∙ ap (λ (v : List ℕ). v ++ y) ex ∙ ap (λ (v : List ℕ). xor_bytes (take h from) j ++ v) ey2
     ∙ sym (on_bytes-append _ (take h from) (drop h from) j k (sym lj)) ∙ ap (λ (v : List ℕ). xor_bytes v (j ++ k)) (take-append-drop h from)
+    ∙ ap (λ (v : List ℕ). xor_bytes from (v ++ k)) ea ∙ ap (λ (v : List ℕ). xor_bytes from (a ++ v)) eb
 
 pub halves_read : (from to x y : List ℕ) (h : ℕ) → length from ≡ h + h → length to ≡ h + h → x ≡ take h to → y ≡ take (length to - h) (drop h to)
     → put_mid h (length (x ++ drop h from) - h) (x ++ drop h from) y ≡ to

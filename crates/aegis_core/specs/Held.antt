@@ -1,5 +1,5 @@
 -- What a state of the code holds, given the bytes of a block (this project's own).
-use Rattle.std.specs.Prelude.{ℕ, List, [], ◌∷◌, ◌++◌}
+use Rattle.std.specs.Prelude.{◌≡◌, ℕ, List, [], ◌∷◌, ◌++◌, length}
 use Rattle.aegis_core.specs.Lanes.{Lane, State}
 use Rattle.aegis_core.specs.Family.{Family, family_128, family_256}
 use Rattle.aegis_core.specs.declared.lanes128.Lane128.{Lane128}
@@ -58,3 +58,10 @@ used_bytes Four a b c d = ((a ++ b) ++ c) ++ d
 -- the bytes of a row
 abbrev pub row_bytes : {B : Type 0} → (B → List ℕ) → Row B → List ℕ
 row_bytes bytes r = used_bytes r.count (bytes r.b0) (bytes r.b1) (bytes r.b2) (bytes r.b3)
+
+-- each block of a row has its 16 bytes
+pub record IsWhole {B : Type 0} (bytes : B → List ℕ) (r : Row B) : Type 0 where
+  pub b0 : length (bytes r.b0) ≡ 16
+  pub b1 : length (bytes r.b1) ≡ 16
+  pub b2 : length (bytes r.b2) ≡ 16
+  pub b3 : length (bytes r.b3) ≡ 16

@@ -1,6 +1,6 @@
 //! How many lanes of a state are used.
 
-ghost use Rattle.std.specs.Prelude.{◌≡◌};
+ghost use Rattle.std.specs.Prelude.{◌≡◌, ◌*◌};
 ghost use Rattle.aegis_core.specs.Lanes.{IsLaneCount};
 ghost use Rattle.aegis_core.specs.Held.{lane_count};
 
@@ -24,6 +24,18 @@ impl LaneCount {
             LaneCount::Two
         } else {
             LaneCount::Four
+        }
+    }
+
+    /// How many bytes a block of each lane makes.
+    #[inline(always)]
+    pub(crate) fn row_len(self) -> usize
+        ensures { result ≡ 16 * lane_count self }
+    {
+        match self {
+            LaneCount::One => 16,
+            LaneCount::Two => 32,
+            LaneCount::Four => 64,
         }
     }
 }
