@@ -4,7 +4,8 @@ ghost use Rattle.std.specs.Prelude.{◌≡◌, ◌⊎◌, ◌^◌, ◌<◌, [], 
 ghost use Rattle.aes_spec.specs.Bytes.{xor_bytes};
 ghost use Rattle.aegis_core.specs.Sealing.{seal, stream, Unseals};
 ghost use Rattle.aegis_core.specs.Ciphers.{key_of, nonce_of, RefusesText};
-ghost use Rattle.aegis_core.specs.Streams.{Encrypts, Decrypts, encrypted_total, decrypted_total, decrypted_bytes, decrypted_rest, decrypted_room};
+ghost use Rattle.aegis_core.specs.Streams.{Encrypts, Decrypts, encrypted_total, decrypted_total};
+ghost use Rattle.aegis_core.specs.Streams.{decrypted_bytes, decrypted_rest, decrypted_room};
 
 use crate::decryptor::Decryptor;
 use crate::encryptor::Encryptor;

@@ -1,6 +1,7 @@
 //! A cipher text that is decrypted piece by piece into a lent destination.
 
-ghost use Rattle.std.specs.Prelude.{◌≡◌, ◌⊎◌, ◌↔◌, ℕ, ◌+◌, ◌^◌, ◌<◌, ◌≤◌, ◌++◌, List, [], length, take, drop, Some, None, IsOk, IfOk, IfErr, OnOk, OnErr};
+ghost use Rattle.std.specs.Prelude.{◌≡◌, ◌⊎◌, ◌↔◌, ℕ, ◌+◌, ◌^◌, ◌<◌, ◌≤◌, ◌++◌, List, []};
+ghost use Rattle.std.specs.Prelude.{length, take, drop, Some, None, IsOk, IfOk, IfErr, OnOk, OnErr};
 ghost use Rattle.aegis_core.specs.Sealing.{Unseals};
 ghost use Rattle.aegis_core.specs.Streams.{Decrypts, decrypted_total, decrypted_bytes, decrypted_rest, decrypted_room, RefusesPiece};
 
