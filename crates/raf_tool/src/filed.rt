@@ -1,10 +1,13 @@
-//! Scripts over a disk that is handed in. The bytes of storages are those of an independent program.
+//! Scripts over a disk that is handed in: in memory, and a real file of the host. The bytes of storages are those of an independent
+//! program.
 
 use crate::memory::{VecSink, VecSource};
 use crate::program::run;
 use crate::trial::{HEAD, joined, words_of};
 use aegis::raf::MemIo;
+use raf_os::FileIo;
 use std::alloc::Global;
+use std::fs;
 use std::process::Abort;
 use std::test::Fail;
 
@@ -140,5 +143,43 @@ fn a_script_over_a_disk(rt: HostRuntime) -> Result<(), Fail> {
     for case in &CASES {
         gives(&rt, alloc, case)?;
     }
+    Ok(())
+}
+
+// A run over the host's file at this path gives its text, and the file then has these bytes.
+fn files(
+    rt: &HostRuntime,
+    alloc: Global,
+    path: &str,
+    rest: &str,
+    text: &str,
+    after: &str,
+) -> Result<(), Fail> {
+    let script = joined(alloc, &[HEAD, MIDDLE, rest])?;
+    let disk = FileIo::create(rt, path)?;
+    let mut source = VecSource::new(script, Vec::new(alloc));
+    let mut sink = VecSink::new(alloc, Vec::new(alloc));
+    let words = words_of(alloc, &["file", path])?;
+    let ran = run(alloc, &words, &mut source, &mut sink, Some(disk));
+    assert_eq!(rt; sink.written(), text.as_bytes(), "after {rest}");
+    assert!(rt; ran.status == 0 && ran.disk.is_some(), "after {rest}");
+    assert_eq!(rt;
+        fs::read(rt, path)?.as_slice(),
+        hex::decode(alloc, after)?.as_slice(),
+        "after {rest}"
+    );
+    Ok(())
+}
+
+#[test]
+fn scripts_over_a_real_file(rt: HostRuntime) -> Result<(), Fail> {
+    let alloc = rt.alloc();
+    let path = "filed.raf";
+    let made = "create 16\nwrite 20 5a\nsize\nsync\n";
+    files(&rt, alloc, path, made, "wrote 1\nsize 21\ndone\n", GAP)?;
+    // A later run finds what the first one left.
+    files(&rt, alloc, path, "storage -\nread 0 21\n", READ, GAP)?;
+    files(&rt, alloc, path, "create 16\n", "", EMPTY)?;
+    fs::remove_file(&rt, path)?;
     Ok(())
 }
