@@ -146,40 +146,47 @@ fn a_script_over_a_disk(rt: HostRuntime) -> Result<(), Fail> {
     Ok(())
 }
 
-// A run over the host's file at this path gives its text, and the file then has these bytes.
-fn files(
+// What a script writes over the host's file at this path, and its status.
+fn ran_over(
     rt: &HostRuntime,
     alloc: Global,
     path: &str,
     rest: &str,
-    text: &str,
-    after: &str,
-) -> Result<(), Fail> {
+) -> Result<(Vec<u8>, u8), Fail> {
     let script = joined(alloc, &[HEAD, MIDDLE, rest])?;
     let disk = FileIo::create(rt, path)?;
     let mut source = VecSource::new(script, Vec::new(alloc));
     let mut sink = VecSink::new(alloc, Vec::new(alloc));
     let words = words_of(alloc, &["file", path])?;
     let ran = run(alloc, &words, &mut source, &mut sink, Some(disk));
-    assert_eq!(rt; sink.written(), text.as_bytes(), "after {rest}");
-    assert!(rt; ran.status == 0 && ran.disk.is_some(), "after {rest}");
-    assert_eq!(rt;
-        fs::read(rt, path)?.as_slice(),
-        hex::decode(alloc, after)?.as_slice(),
-        "after {rest}"
-    );
-    Ok(())
+    Ok((sink.written().to_vec(alloc)?, ran.status))
 }
 
 #[test]
 fn scripts_over_a_real_file(rt: HostRuntime) -> Result<(), Fail> {
     let alloc = rt.alloc();
     let path = "filed.raf";
-    let made = "create 16\nwrite 20 5a\nsize\nsync\n";
-    files(&rt, alloc, path, made, "wrote 1\nsize 21\ndone\n", GAP)?;
-    // A later run finds what the first one left.
-    files(&rt, alloc, path, "storage -\nread 0 21\n", READ, GAP)?;
-    files(&rt, alloc, path, "create 16\n", "", EMPTY)?;
+    let rows = [
+        (
+            "create 16\nwrite 20 5a\nsize\nsync\n",
+            "wrote 1\nsize 21\ndone\n",
+            GAP,
+        ),
+        // a later run finds what the first one left
+        ("storage -\nread 0 21\n", READ, GAP),
+        ("create 16\n", "", EMPTY),
+    ];
+    for (rest, text, after) in &rows {
+        let (written, status) = ran_over(&rt, alloc, path, rest)?;
+        assert!(rt;
+            status == 0 && written.as_slice() == text.as_bytes(),
+            "after {rest}"
+        );
+        assert!(rt;
+            fs::read(&rt, path)?.as_slice() == hex::decode(alloc, after)?.as_slice(),
+            "after {rest}"
+        );
+    }
     fs::remove_file(&rt, path)?;
     Ok(())
 }
