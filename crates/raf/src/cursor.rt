@@ -1,5 +1,5 @@
 //! A position in an open file, from which it is read and written.
-ghost use Rattle.std.specs.Prelude.{◌≡◌, ◌+◌, ◌^◌, ◌<◌, ◌≤◌, ◌↔◌, length, take, drop, unsigned_abs, Some, None, Err, MatchResult};
+ghost use Rattle.std.specs.Prelude.{◌≡◌, ◌+◌, ◌^◌, ◌<◌, ◌≤◌, ◌↔◌, ◌⊎◌, pos, ◌+ℤ◌, length, take, drop, unsigned_abs, Some, None, Err, MatchResult};
 ghost use Rattle.std.specs.Prelude.{IfSome, IsOk, IfOk, IfErr, OnOk, OnErr};
 ghost use Rattle.std.specs.Int.{w64, FitsUnsigned};
 ghost use Rattle.std.specs.Io.{ReadsAtMost, WritesAtMost};
@@ -13,7 +13,7 @@ ghost use Rattle.raf.specs.Handle.{Holds};
 ghost use Rattle.raf.specs.Read.{OldOrOpened};
 ghost use Rattle.raf.specs.Stepped.{Stepped, read_reply, write_reply, done_reply};
 ghost use Rattle.raf.specs.Seek.{seek_target};
-ghost use Rattle.raf.specs.Cursor.{Refuses};
+ghost use Rattle.raf.specs.Cursor.{Refuses, FallsShort};
 ghost use Rattle.raf.specs.declared.command.Reply.TheVariants.{Bytes, Wrote, Done};
 
 use crate::command::Command;
@@ -174,7 +174,8 @@ impl<A: Algorithm, I: RafIo, R: RafRng, H: MerkleHasher> Read for RafCursor<'_, 
         }
     }
 
-    /// Fills the buffer in one read, or answers an error: of the kind `UnexpectedEof` where the file ends before.
+    /// Fills the buffer in one read, or answers an error: of the kind `UnexpectedEof` where the file ends before it is full, and then the
+    /// position is the file's end; of the kind `Other` where the read is refused.
     fn read_exact(&mut self, buf: &mut [u8]) -> io::Result<()>
         ensures bytes { OnOk result (Consumes None None buf.new) }
         ensures same_reference { self.new.file.ghost_name ≡ self.old.file.ghost_name }
@@ -182,6 +183,11 @@ impl<A: Algorithm, I: RafIo, R: RafRng, H: MerkleHasher> Read for RafCursor<'_, 
             (Command.Read self.old.position (length buf.old)) (Bytes (take (length buf.old) buf.new))) }
         ensures moves { OnOk result (self.new.position ≡ self.old.position + length buf.old) }
         ensures kept { OnOk result (self.new.last ≡ self.old.last) }
+        ensures refused { IfErr result (λ e. error_kind e ≡ IoKind.Other → (self.new.position ≡ self.old.position) × Refuses
+            (cipher_of A.variant) H.hashing self.old.file.now self.new.file.now (Command.Read self.old.position (length buf.old)) self.new.last) }
+        ensures short { IfErr result (λ e. error_kind e ≡ IoKind.UnexpectedEof → (self.new.last ≡ self.old.last) × FallsShort
+            (cipher_of A.variant) H.hashing self.old.file.now self.new.file.now self.old.position self.new.position buf.new) }
+        ensures kind { IfErr result (λ e. (error_kind e ≡ IoKind.Other) ⊎ (error_kind e ≡ IoKind.UnexpectedEof)) }
     {
         match RafCursor::read(self, buf) {
             Ok(count) if count == buf.len() => Ok(()),
@@ -269,30 +275,40 @@ impl<A: Algorithm, I: RafIo, R: RafRng, H: MerkleHasher> Seek for RafCursor<'_, 
         }
     }
 
+    /// Moves the position to the start, which is never refused.
     fn rewind(&mut self) -> io::Result<()>
         ensures moves { MovesTo (Some self.old.position) (Some self.new.position) 0 result }
         ensures bytes { Keeps None None }
         ensures same_reference { self.new.file.ghost_name ≡ self.old.file.ghost_name }
         ensures file { self.new.file.now ≡ self.old.file.now }
+        ensures can { IsOk result }
+        ensures kept { self.new.last ≡ self.old.last }
     {
         Seek::seek(self, SeekFrom::Start(0))?;
         Ok(())
     }
 
+    /// The position, which is never refused.
     fn stream_position(&mut self) -> io::Result<u64>
         ensures value { IfSome (Some self.old.position) (λ at. IfOk result (λ n. n ≡ at)) }
         ensures stays { StaysAt (Some self.old.position) (Some self.new.position) }
         ensures bytes { Keeps None None }
         ensures same { self.new ≡ self.old }
+        ensures can { IsOk result }
     {
         Ok(self.position)
     }
 
+    /// As `seek` from where the position is.
     fn seek_relative(&mut self, offset: i64) -> io::Result<()>
         ensures moves { MovesBy (Some self.old.position) (Some self.new.position) offset result }
         ensures bytes { Keeps None None }
         ensures same_reference { self.new.file.ghost_name ≡ self.old.file.ghost_name }
         ensures file { self.new.file.now ≡ self.old.file.now }
+        ensures can { IsOk result ↔ FitsUnsigned w64 (pos self.old.position +ℤ offset) }
+        ensures kept { OnOk result (self.new.last ≡ self.old.last) }
+        ensures last { OnErr result (self.new.last ≡ Some (ErrorKind.InvalidArgument Reason.SeekOverflow)) }
+        ensures kind { IfErr result (λ e. error_kind e ≡ IoKind.InvalidInput) }
     {
         Seek::seek(self, SeekFrom::Current(offset))?;
         Ok(())
