@@ -1,6 +1,7 @@
-//! The errors of the ciphers, and the limit of a message.
+//! The errors of the ciphers and of sealed streams.
 
-use aegis_core::{Error, MessageLength};
+use aegis_core::Error;
+use aegis_stream::StreamError;
 use std::test::Fail;
 
 #[test]
@@ -13,17 +14,23 @@ fn errors_have_their_numbers_and_texts(rt: HostRuntime) -> Result<(), Fail> {
     ];
     for (error, number, text) in errors {
         assert_eq!(rt; error as u8, number);
-        let shown = format!(in rt.alloc(); "{error}")?;
-        assert_eq!(rt; shown.as_str(), text);
+        assert_eq!(rt; format!(in rt.alloc(); "{error}")?.as_str(), text);
     }
     Ok(())
 }
 
 #[test]
-fn a_message_ends_at_its_limit(rt: HostRuntime) {
-    let mut length = MessageLength::new();
-    assert!(rt; length.try_add(0x1fff_ffff_ffff_ffff) == Ok(()));
-    assert!(rt; length.try_add(1) == Err(Error::MessageTooLong));
-    assert!(rt; length.total() == 0x1fff_ffff_ffff_ffff);
-    assert!(rt; length.fits(0) && !length.fits(1));
+fn errors_of_streams_have_their_numbers_and_texts(rt: HostRuntime) -> Result<(), Fail> {
+    let errors = [
+        (StreamError::Frame, 1, "invalid frame"),
+        (StreamError::InvalidTag, 2, "invalid tag"),
+        (StreamError::Trailing, 3, "bytes after the end"),
+        (StreamError::Finished, 4, "stream is finished"),
+        (StreamError::OutOfMemory, 5, "out of memory"),
+    ];
+    for (error, number, text) in errors {
+        assert_eq!(rt; error as u8, number);
+        assert_eq!(rt; format!(in rt.alloc(); "{error}")?.as_str(), text);
+    }
+    Ok(())
 }

@@ -1,6 +1,5 @@
-//! Tests of the ciphers, through their public names: the specification's vectors, figures of an independent
-//! program, calls that have to agree, and printed text. They stand in a crate of their own, since a crate with
-//! tests is proved twice; and each is one for many cases, since a test costs what its function costs to prove.
+//! Tests of what the ciphers, the AES blocks and sealed streams show a Rust program: texts, names, and code that is
+//! generic over ciphers. What they answer is in the lines of `cipher_cases`.
 #![tactic(auto)]
 
 #[cfg(test)]
@@ -10,12 +9,6 @@ mod blocks;
 #[cfg(test)]
 mod errors;
 #[cfg(test)]
-mod macs;
-#[cfg(test)]
-mod pieces;
-#[cfg(test)]
-mod sealing;
+mod names;
 #[cfg(test)]
 mod streams;
-#[cfg(test)]
-mod vectors;

@@ -1,8 +1,9 @@
 //! Encrypted files: at a path, with a commitment, and by lists of commands.
 use aegis::raf::{
     Aegis256, Command, Data, FileIo, MemIo, NoMerkle, Raf, RafBuilder, Reply, Sha256Hasher, VecRng,
-    session,
+    Verdict, clash, session,
 };
+use std::alloc::Global;
 use std::fs;
 use std::test::Fail;
 
@@ -48,6 +49,42 @@ fn with_a_commitment(rt: HostRuntime) -> Result<(), Fail> {
     file.merkle_commitment(&mut commitment)?;
     let damaged = file.merkle_verify()?;
     assert!(rt; damaged.is_none() && commitment != [0; 32]);
+    Ok(())
+}
+
+type Committed = Raf<Aegis256, MemIo, VecRng, Sha256Hasher>;
+
+// A new file with a tree, which holds one entry.
+fn committed(alloc: Global, entry: &[u8]) -> Result<Committed, Fail> {
+    let rng = VecRng::new(Vec::from_elem(alloc, 5, 256)?);
+    let io = MemIo::new(alloc, Vec::new(alloc), Vec::new(alloc));
+    let builder = RafBuilder::<Aegis256, _, NoMerkle>::new(rng).merkle(Sha256Hasher::new(), 1024);
+    let mut file = match builder.create(alloc, io, &[7; 32]) {
+        Ok(file) => file,
+        Err(refused) => return Err(refused.error.into()),
+    };
+    file.write(entry, 0)?;
+    Ok(file)
+}
+
+// What two holders of a commitment say to each other.
+fn said(ours: &mut Committed, theirs: &mut Committed) -> Result<&'static str, Fail> {
+    let said = match clash(ours, theirs)? {
+        Verdict::Unequal => "we committed to different things",
+        Verdict::Same => "we hold the same content",
+        Verdict::Clash { a: _, b: _ } => "the hash function is broken, and here is where",
+    };
+    Ok(said)
+}
+
+#[test]
+fn with_two_holders_of_a_commitment(rt: HostRuntime) -> Result<(), Fail> {
+    let alloc = rt.alloc();
+    let mut ours = committed(alloc, b"entry")?;
+    let mut theirs = committed(alloc, b"entry")?;
+    assert!(rt; said(&mut ours, &mut theirs)? == "we hold the same content");
+    theirs.write(b"other", 0)?;
+    assert!(rt; said(&mut ours, &mut theirs)? == "we committed to different things");
     Ok(())
 }
 

@@ -1,4 +1,5 @@
-//! The examples of the repository's first page, word for word, run. `docs/check` compares the two texts.
+//! The examples of the repository's first page, word for word, run, and what they don't use of the names of `aegis`. `docs/check` compares
+//! the examples with the page.
 #![tactic(auto)]
 
 #[cfg(test)]
@@ -6,3 +7,5 @@ mod ciphers;
 #[cfg(test)]
 mod files;
 mod generic;
+#[cfg(test)]
+mod names;

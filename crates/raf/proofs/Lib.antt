@@ -34,6 +34,7 @@ pub mod Totals
 pub mod Arms
 pub mod Plans
 pub mod Amounts
+pub mod Given
 pub mod Grows
 pub mod GrowsOn
 pub mod ChangeBounds
@@ -65,3 +66,17 @@ pub mod Changed
 pub mod Sessions
 pub mod Completes
 pub mod WrittenThenRead
+pub mod Cuts
+pub mod WholeFiles
+pub mod Appended
+pub mod OnlyReads
+pub mod Conversions
+pub mod Asked
+pub mod Nodes
+pub mod Clashes
+pub mod Walks
+pub mod Descents
+pub mod ChunkLooks
+pub mod AllChunks
+pub mod Judged
+pub mod ComparesOn

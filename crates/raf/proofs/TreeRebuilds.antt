@@ -36,7 +36,7 @@ use Rattle.raf.proofs.TreeSteps.{at, with_chunks, count, whole, measured, free, 
 use Rattle.raf.proofs.TreeSteps.IsTreeCommand.{rebuild}
 
 -- chunks of which one is missing, or none
-some_missing : (C : Cipher) (K : List ℕ) (h : Header) (b : List ℕ) (i : ℕ) → i < chunk_count h.chunk_size h.file_size → chunk_at C K h b i ≡ None → none_missing (λ _. true) 0 (chunks_of C K h b) ≡ false
+pub some_missing : (C : Cipher) (K : List ℕ) (h : Header) (b : List ℕ) (i : ℕ) → i < chunk_count h.chunk_size h.file_size → chunk_at C K h b i ≡ None → none_missing (λ _. true) 0 (chunks_of C K h b) ≡ false
 some_missing C K h b i lt is = one_missing (λ _. true) 0 i (chunks_of C K h b) (get_chunk C K h b i lt ∙ ap (λ (o : Option (List ℕ)). Some o) is) refl
 
 no_missing : (C : Cipher) (K : List ℕ) (h : Header) (b : List ℕ) → ((i : ℕ) → i < chunk_count h.chunk_size h.file_size → (m : List ℕ) × (chunk_at C K h b i ≡ Some m))

@@ -26,7 +26,7 @@ module _ (C : Cipher) (K : List ℕ) (h : Header) where
   so_long index = min (record_start (shape_of C h) index) (layout_len (shape_of C h) h.file_size) - 96
 
   -- a record more
-  further : (index : ℕ) → Sound C h → index < chunk_count h.chunk_size h.file_size → so_long index + record_len (shape_of C h) h.file_size index ≤ so_long (index + 1)
+  pub further : (index : ℕ) → Sound C h → index < chunk_count h.chunk_size h.file_size → so_long index + record_len (shape_of C h) h.file_size index ≤ so_long (index + 1)
   further index sound there =
       more index (C.nonce_len + h.chunk_size + tag_len (shape_of C h)) (record_len (shape_of C h) h.file_size index) whole
       (within_layout (shape_of C h) h.file_size index (omega (arith, sound.least)) there) (omega arith)

@@ -16,11 +16,17 @@ pub mod Put
 pub mod Carry
 pub mod Session
 pub mod Ran
+pub mod Converted
+pub mod Converting
 pub mod Growing
 pub mod Verifying
+pub mod Given
 pub mod Complete
 pub mod Lending
 pub mod Probe
 pub mod Seek
 pub mod Cursor
 pub mod Paths
+pub mod Content
+pub mod Clash
+pub mod Clashing

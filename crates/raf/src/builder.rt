@@ -1,5 +1,6 @@
 //! What a file is made and opened with.
 ghost use Rattle.std.specs.Prelude.{◌≡◌, ◌+◌, List, ℕ, Some, None, Option, IfOk, IfErr, true, false};
+ghost use Rattle.std.specs.Option.{option_map};
 ghost use Rattle.raf_format.specs.Cipher.{cipher_of};
 ghost use Rattle.raf.specs.Handle.{hash_len_of};
 ghost use Rattle.raf.specs.Outside.{over_storage};
@@ -213,8 +214,18 @@ impl<A: Algorithm, R: RafRng, H: MerkleHasher> RafBuilder<A, R, H> {
         }
     }
 
+    /// How long a hash of the hasher is, or None exactly where there is no hasher.
+    pub fn hash_len(&self) -> Option<usize>
+        ensures { result ≡ option_map (λ s. (H.hashing s).len) self.now.outside.setting }
+    {
+        match &self.hasher {
+            Some(hasher) => Some(hasher.hash_len()),
+            None => None,
+        }
+    }
+
     /// How long a hash of the hasher is, and 0 without a hasher.
-    pub(crate) fn hash_len(&self) -> usize
+    pub(crate) fn hash_len_or_zero(&self) -> usize
         ensures { result ≡ hash_len_of H.hashing self.now.outside.setting }
     {
         match &self.hasher {
@@ -224,7 +235,7 @@ impl<A: Algorithm, R: RafRng, H: MerkleHasher> RafBuilder<A, R, H> {
     }
 
     /// What the builder holds, and a storage.
-    pub(crate) fn into_parts<I: RafIo>(self, io: I) -> Parts<I, R, H>
+    pub fn into_parts<I: RafIo>(self, io: I) -> Parts<I, R, H>
         ensures { result ≡ over_storage (I.bytes io) (I.durable io) (I.faults io) (I.reach io) (I.traffic io) (I.changes io) (I.strays io)
             self.outside }
     {

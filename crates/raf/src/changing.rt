@@ -14,8 +14,8 @@ use raf_format::Algorithm;
 use raf_io::{Error, RafIo, RafRng};
 use raf_tree::{MerkleHasher, Tree, tree_laws};
 
-// The most chunks that a file with this tree may have.
-fn chunk_limit(tree: &Option<Tree>) -> Option<u64>
+/// The most chunks that a file with this tree may have.
+pub fn chunk_limit(tree: &Option<Tree>) -> Option<u64>
     ensures { result ≡ option_map (λ t. t.max_chunks) tree.now }
 {
     match tree {

@@ -3,8 +3,12 @@ ghost use Rattle.std.specs.Prelude.{◌≡◌, ◌+◌, ◌^◌, ◌<◌, ◌≤
 ghost use Rattle.std.specs.Prelude.{true, false};
 ghost use Rattle.std.specs.Option.{option_map};
 ghost use Rattle.raf_format.specs.Cipher.{cipher_of};
-ghost use Rattle.raf_format.specs.File.{File};
-ghost use Rattle.raf.specs.Handle.{Holds, Paired, handle_of, hash_len_of};
+ghost use Rattle.raf_format.specs.File.{File, chunk_count};
+ghost use Rattle.raf_tree.specs.Kept.{Kept, tree_height};
+ghost use Rattle.raf_tree.specs.Made.{IsSized};
+ghost use Rattle.raf.specs.Concern.{can_have};
+ghost use Rattle.raf.specs.Handle.{Holds, Paired, HasRoom, handle_of, hash_len_of, limit_of, outline};
+ghost use Rattle.raf.specs.Given.{Given, IsPlace};
 ghost use Rattle.raf.specs.Read.{OldOrOpened};
 ghost use Rattle.raf.specs.Stepped.{Stepped, read_reply, write_reply, done_reply, verify_reply, commitment_reply};
 ghost use Rattle.raf_io.specs.Kinds.{kind_of};
@@ -14,14 +18,17 @@ ghost use Rattle.aegis_core.specs.Keys.{derived_key};
 ghost use Rattle.raf_format.specs.Derived.{CanDerive};
 ghost use Rattle.raf.specs.Probe.{WhyNoKey};
 ghost use Rattle.raf.specs.Lending.{lends_storage, with_storage};
+ghost use Rattle.raf.specs.Clash.{Compared};
 
-use crate::changing::{truncate_to, write_bytes};
+use crate::changing::{chunk_limit, truncate_to, write_bytes};
+use crate::clashing::{Verdict, clash_files};
 use crate::command::Command;
-use crate::opening::OpenFile;
+use crate::opening::{OpenFile, count_of};
 use crate::outside::Parts;
+use crate::planning::admit;
 use crate::probing::refusal_of;
 use crate::reading::read_bytes;
-use crate::verifying::{commit_file, rebuild_file, verify_file};
+use crate::verifying::{commit_file, give_node, rebuild_file, verify_file};
 use raf_format::Algorithm;
 use raf_io::{Error, ErrorKind, RafIo, RafRng, Reason};
 use raf_tree::MerkleHasher;
@@ -129,6 +136,21 @@ impl<A: Algorithm, I: RafIo, R: RafRng, H: MerkleHasher> Raf<A, I, R, H> {
         self.file.header.version
     }
 
+    /// Whether the file can be this long: its storage has then fewer than 2^64 bytes, and its chunks have room in the hasher's tree,
+    /// where there is one. It also answers where a change was cut short.
+    pub fn admits(&self, size: u64) -> bool
+        ensures { result ≡ can_have (limit_of self.now) (outline (cipher_of A.variant) self.now.header) size }
+    {
+        admit::<A>(&self.file.header, size, chunk_limit(&self.file.tree)).is_some()
+    }
+
+    // A change was cut short.
+    pub(crate) fn is_broken(&self) -> bool
+        ensures { result ≡ self.now.broken }
+    {
+        self.file.broken
+    }
+
     /// Makes the storage durable.
     pub fn sync(&mut self) -> Result<(), Error>
         ensures stepped { Stepped (cipher_of A.variant) H.hashing self.old self.new Command.Sync (done_reply result) }
@@ -178,6 +200,47 @@ impl<A: Algorithm, I: RafIo, R: RafRng, H: MerkleHasher> Raf<A, I, R, H> {
         commit_file::<A, I, R, H>(&mut self.parts, &self.file, out)
     }
 
+    /// The file's id.
+    pub fn id(&self) -> [u8; 32]
+        ensures { result ≡ self.now.header.id }
+    {
+        self.file.header.id
+    }
+
+    /// How many chunks the file has; a file with a hasher has no more than its tree has room for.
+    pub fn chunk_count(&self) -> u64
+        ensures count { result ≡ chunk_count self.now.header.chunk_size self.now.header.file_size }
+        ensures room { HasRoom result self.now.tree }
+    {
+        count_of(&self.file.header)
+    }
+
+    /// The height of the file's tree, or None exactly where there is no hasher: the least number whose power of two is at least the
+    /// number of chunks that there may be.
+    pub fn merkle_height(&self) -> Option<u32>
+        ensures height { result ≡ option_map tree_height self.now.tree }
+        ensures paired { Paired H.hashing self.now.outside.setting self.now.tree }
+        ensures sized { (t : Kept) → self.now.tree ≡ Some t → IsSized t }
+    {
+        match &self.file.tree {
+            Some(tree) => Some(tree.height()),
+            None => None,
+        }
+    }
+
+    /// The node of a place in the file's tree, of `hash_len` bytes, in front of the buffer; what stands behind it stays. Level 0 has the
+    /// leaves, and the place is in the tree. One hash is asked where no chunk is below the place, and else none. Refused by
+    /// `MerkleNotEnabled` without a hasher, by `InvalidArgument` where the buffer is shorter, and by `Hash`.
+    pub fn merkle_node(&mut self, level: u32, index: u64, out: &mut [u8]) -> Result<(), Error>
+        requires { (t : Kept) → self.old.tree ≡ Some t → IsPlace t level index }
+        ensures { Given H.hashing level index self.old self.new out.old out.new result }
+    {
+        if self.file.broken {
+            return Err(Error::Broken);
+        }
+        give_node::<A, I, R, H>(&mut self.parts, &self.file, level, index, out)
+    }
+
     /// How long a hash is, or None exactly where there is no hasher.
     pub fn hash_len(&self) -> Option<usize>
         ensures { result ≡ option_map (λ s. (H.hashing s).len) self.now.outside.setting }
@@ -221,4 +284,28 @@ impl<A: Algorithm, I: RafIo, R: RafRng, H: MerkleHasher> Raf<A, I, R, H> {
         } = self.close();
         io
     }
+}
+
+/// Whether two files with hashers of one type have one commitment, and then whether they are the same. `Unequal` where the commitments
+/// differ; `Same` where they are equal, and ids, sizes and chunks are equal; else `Clash`, the first two places, in the order of the
+/// commitment and then the nodes from the root down, left before right, whose hasher calls are different and have one answer. The
+/// answer is right where each file's tree is that of its chunks and both hashers have one setting.
+///
+/// Refused by `Broken` exactly where either file is marked, then by `MerkleNotEnabled` exactly where either has no hasher, and then by
+/// `Io`, `AuthenticationFailed` (a chunk doesn't open) and `Hash` as they come. Neither file changes, and neither becomes marked.
+pub fn clash<
+    A1: Algorithm,
+    I1: RafIo,
+    R1: RafRng,
+    A2: Algorithm,
+    I2: RafIo,
+    R2: RafRng,
+    H: MerkleHasher,
+>(a: &mut Raf<A1, I1, R1, H>, b: &mut Raf<A2, I2, R2, H>) -> Result<Verdict, Error>
+    ensures { Compared (cipher_of A1.variant) (cipher_of A2.variant) H.hashing a.old b.old a.new b.new result }
+{
+    if a.file.broken || b.file.broken {
+        return Err(Error::Broken);
+    }
+    clash_files::<A1, I1, R1, A2, I2, R2, H>(&mut a.parts, &mut a.file, &mut b.parts, &mut b.file)
 }

@@ -14,6 +14,7 @@ ghost use Rattle.raf.specs.Carry.{SameTree, OfTrees};
 ghost use Rattle.raf.specs.Outside.{Quiet, Caused, Moved, Kept as Kept_};
 ghost use Rattle.raf.specs.Loaded.{Sound};
 ghost use Rattle.raf.specs.Opening.{TreeMade, WhyNoTree};
+ghost use Rattle.raf.specs.Given.{Asked};
 ghost use Rattle.raf.specs.Growing.{Grew, LeavesSoFar, LeavesStopped};
 
 use crate::loading::{chunk_of, load};
@@ -122,6 +123,23 @@ impl<I: RafIo, R: RafRng, H: MerkleHasher> Parts<I, R, H> {
             return Ok(());
         };
         match hasher.hash_commitment(out, tree.root(), id, size) {
+            Ok(()) => Ok(()),
+            Err(_) => Err(Error::Hash),
+        }
+    }
+
+    /// Puts the hash of a place with no chunk below it into `out`, which has a hash's length. There is a hasher.
+    pub fn empty(&mut self, out: &mut [u8], level: u32, index: u64) -> Result<(), Error>
+        requires out { (x : List ℕ) → self.old.setting ≡ Some x → length out.old ≡ (H.hashing x).len }
+        ensures empty { OnOk result ((x : List ℕ) → self.old.setting ≡ Some x → out.new ≡ (H.hashing x).empty level index) }
+        ensures failed { IfErr result (λ e. (kind_of e ≡ ErrorKind.Hash) × Rose self.old.hash_faults self.new.hash_faults) }
+        ensures quiet { OnOk result (self.new.hash_faults ≡ self.old.hash_faults) }
+        ensures asked { Asked 1 self.old self.new }
+    {
+        let Some(hasher) = &mut self.hasher else {
+            return Ok(());
+        };
+        match hasher.hash_empty(out, level, index) {
             Ok(()) => Ok(()),
             Err(_) => Err(Error::Hash),
         }

@@ -4,6 +4,7 @@ ghost use Rattle.raf_format.specs.Cipher.{cipher_of};
 ghost use Rattle.raf_format.specs.File.{File, file_of};
 ghost use Rattle.raf.specs.Handle.{Holds};
 ghost use Rattle.raf.specs.Complete.{Complete};
+ghost use Rattle.raf.specs.Content.{Contents};
 ghost use Rattle.raf.specs.Stepped.{Stepped, write_reply};
 
 use crate::command::Command;
@@ -29,6 +30,12 @@ pub fn holds_again<A: Algorithm, I: RafIo, R: RafRng, H: MerkleHasher>(
 /// is opened or made, and a session answered, but for want of memory.
 pub fn complete<A: Algorithm, H: MerkleHasher>()
     ensures { Complete (cipher_of A.variant) H.hashing }
+{}
+
+/// The bytes of a file none of whose chunks is missing: what reads and writes do by them; and how reads, one after the other, show that none
+/// is.
+pub fn contents<A: Algorithm>()
+    ensures { Contents (cipher_of A.variant) }
 {}
 
 /// Writes bytes at an offset, and reads as many from there: they are the same.

@@ -4,8 +4,10 @@
 mod builder;
 mod carrying;
 mod changing;
+mod clashing;
 mod command;
 mod committing;
+mod converting;
 mod creating;
 mod cursor;
 mod data;
@@ -27,11 +29,13 @@ mod storing;
 mod verifying;
 
 pub use builder::{OpenError, RafBuilder};
+pub use clashing::Verdict;
 pub use command::{Command, Replies, Reply};
+pub use converting::{ConvertError, Side, convert};
 pub use cursor::RafCursor;
 pub use data::Data;
-pub use file::Raf;
-pub use laws::{complete, holds_again};
+pub use file::{Raf, clash};
+pub use laws::{complete, contents, holds_again, write_then_read, write_through};
 pub use outside::Parts;
 pub use paths::PathError;
 pub use probing::{derive_key, probe};
@@ -41,5 +45,5 @@ pub use raf_format::{
 };
 pub use raf_io::{Error, ErrorKind, MemIo, RafIo, RafRng, Reason, VecRng};
 pub use raf_os::{FileIo, OsRng};
-pub use raf_tree::{FakeHasher, HashFault, MerkleHasher, NoMerkle, Sha256Hasher};
+pub use raf_tree::{FakeHasher, HashFault, MerkleHasher, NoMerkle, Place, Sha256Hasher};
 pub use serving::{SessionEnd, session};

@@ -305,7 +305,7 @@ pub fn session<A: Algorithm, I: RafIo, R: RafRng, H: MerkleHasher>(
         (over_storage (I.bytes io) (I.durable io) (I.faults io) (I.reach io) (I.traffic io) (I.changes io) (I.strays io) builder.outside)
         result.outside result.outcome }
 {
-    let hash_len = builder.hash_len();
+    let hash_len = builder.hash_len_or_zero();
     if !replies_fit(commands, hash_len) {
         return SessionEnd::<I, R, H>::of(Err(Error::Overflow), builder.into_parts::<I>(io));
     }

@@ -1,7 +1,7 @@
 //! The chunks of a file are compared with its tree, and the tree is committed to and made anew.
 ghost use Rattle.std.specs.Prelude.{◌≡◌, ◌+◌, ◌^◌, ◌<◌, ◌≤◌, List, ℕ, length, take, drop, is_some, Option, Some, None, IsErrAnd, IfOk};
 ghost use Rattle.std.specs.Prelude.{IfErr, OnOk, OnErr, true, false};
-ghost use Rattle.raf_tree.specs.Kept.{Kept};
+ghost use Rattle.raf_tree.specs.Kept.{Kept, Kept as Tree_};
 ghost use Rattle.raf_format.specs.Cipher.{cipher_of};
 ghost use Rattle.raf_format.specs.File.{chunk_count, chunk_len};
 ghost use Rattle.raf_format.specs.Version.{tag_len_of};
@@ -10,6 +10,7 @@ ghost use Rattle.raf.specs.Handle.{Paired, HasRoom, handle_of};
 ghost use Rattle.raf.specs.Loaded.{Sound};
 ghost use Rattle.raf.specs.Handle.{hash_len_of};
 ghost use Rattle.raf.specs.Stepped.{Went, verify_reply, commitment_reply, done_reply};
+ghost use Rattle.raf.specs.Given.{Given, IsPlace};
 ghost use Rattle.raf.specs.Verifying.{Compares, Verifies, AllThere};
 
 use crate::command::Command;
@@ -18,7 +19,7 @@ use crate::opening::{OpenFile, count_of, grow_file};
 use crate::outside::Parts;
 use raf_format::{Algorithm, Header};
 use raf_io::{Error, ErrorKind, RafIo, RafRng, Reason};
-use raf_tree::{MerkleHasher, Tree};
+use raf_tree::{MerkleHasher, Tree, tree_laws};
 
 // Whether a chunk opens and its leaf is the kept one.
 fn compare<A: Algorithm, I: RafIo, R: RafRng, H: MerkleHasher>(
@@ -154,4 +155,38 @@ pub fn rebuild_file<A: Algorithm, I: RafIo, R: RafRng, H: MerkleHasher>(
     }
     open_all::<A, I, R, H>(parts, &file.chunk_key, &file.header, &mut file.first)?;
     grow_file::<A, I, R, H>(parts, file)
+}
+
+/// The node of a place in a file's tree, in front of the buffer: it is asked for where no chunk is below the place, and else the kept one.
+/// The file isn't marked.
+pub fn give_node<A: Algorithm, I: RafIo, R: RafRng, H: MerkleHasher>(
+    parts: &mut Parts<I, R, H>,
+    file: &OpenFile<A>,
+    level: u32,
+    index: u64,
+    out: &mut [u8],
+) -> Result<(), Error>
+    requires unmarked { file.now.broken ≡ false }
+    requires paired { Paired H.hashing parts.old.setting file.now.tree }
+    requires place { (t : Tree_) → file.now.tree ≡ Some t → IsPlace t level index }
+    ensures given { Given H.hashing level index (handle_of parts.old (A.key_list file.now.key) file.now.header file.now.tree file.now.broken)
+        (handle_of parts.new (A.key_list file.now.key) file.now.header file.now.tree file.now.broken) out.old out.new result }
+    ensures paired { Paired H.hashing parts.new.setting file.now.tree }
+{
+    tree_laws();
+    let Some(tree) = &file.tree else {
+        return Err(Error::MerkleNotEnabled);
+    };
+    let len = tree.root().len();
+    if out.len() < len {
+        return Err(Error::InvalidArgument(Reason::CommitmentBuffer));
+    }
+    let (front, _) = out.split_at_mut(len);
+    match tree.node(level, index) {
+        Some(node) => {
+            front.copy_from_slice(node);
+            Ok(())
+        }
+        None => parts.empty(front, level, index),
+    }
 }

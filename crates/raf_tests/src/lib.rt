@@ -1,20 +1,22 @@
-//! Tests of the crates of encrypted files, through their public names: figures of an independent program, worked rows, printed text.
+//! Tests of encrypted files that no line of data can state: a storage of the caller's own, files of the host, std's traits, printed texts.
 //! They stand in a crate of their own, since a crate with tests is proved twice.
 #![tactic(auto)]
 
 #[cfg(test)]
-mod bytes;
+mod carrier;
 #[cfg(test)]
-mod derived_keys;
+mod denying;
 #[cfg(test)]
-mod figures;
+mod files;
 #[cfg(test)]
-mod headers;
+mod given;
 #[cfg(test)]
-mod layouts;
+mod scripts;
 #[cfg(test)]
-mod memory;
-#[cfg(test)]
-mod records;
+mod standard;
 #[cfg(test)]
 mod texts;
+#[cfg(test)]
+mod trees;
+#[cfg(test)]
+mod unprotected;

@@ -1,9 +1,0 @@
-pub mod Streams
-pub mod Memory
-pub mod Text
-pub mod Words
-pub mod Disk
-pub mod Ends
-pub mod Demo
-pub mod Run
-pub mod Laws

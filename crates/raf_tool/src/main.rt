@@ -1,46 +1,13 @@
 //! The program `raf_tool`: a script of commands over an encrypted file, in memory or on a disk, in, and its replies, out.
 #![tactic(auto)]
 
-mod answer;
-mod demo;
-#[cfg(test)]
-mod demos;
-#[cfg(test)]
-mod examples;
-#[cfg(test)]
-mod filed;
-mod memory;
-#[cfg(test)]
-mod names;
-mod output;
-mod program;
-#[cfg(test)]
-mod rows;
-mod running;
-#[cfg(test)]
-mod sealed;
-mod seed;
-mod standard;
-mod streams;
-mod telling;
-#[cfg(test)]
-mod tests;
-#[cfg(test)]
-mod trial;
-mod whole;
-mod words;
-#[cfg(test)]
-mod wrong;
-
-use program::run;
 use raf_os::FileIo;
-use standard::{ReadSource, WriteSink};
+use raf_run::{ReadSource, Words, WriteSink, run};
 use std::alloc::AllocError;
 use std::fs::File;
 use std::process::ExitCode;
 use std::rt::Files;
 use std::{env, io};
-use words::Words;
 
 // The words after the program's name. Words that are no text are a form of none, so none of them are kept.
 fn words_of(rt: &HostRuntime) -> Result<Words, AllocError> {

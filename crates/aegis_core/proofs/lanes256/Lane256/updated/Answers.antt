@@ -4,4 +4,12 @@ use Rattle.aegis_core.proofs.lanes256.Lane256.updated.Goals as goal
 
 pub returns : goal.returns
 unfolding update_lane_256
-returns g c = rw (c.round.ensures, c.xor.ensures, c.round-2.ensures, c.round-3.ensures, c.round-4.ensures, c.round-5.ensures, c.round-6.ensures) refl
+returns g c = rw (
+  c.rounds-s0.ensures.first,
+  c.rounds-s0.ensures.second,
+  c.rounds-s1.ensures.first,
+  c.rounds-s1.ensures.second,
+  c.rounds-s2.ensures.first,
+  c.rounds-s2.ensures.second,
+  c.xor.ensures,
+) refl

@@ -1,0 +1,19 @@
+use Rattle.raf_run.proofs.OneText.{one_end, one_text}
+use Rattle.raf_run.proofs.Completeness.{completes, completes_in_memory}
+use Rattle.raf_run.proofs.ShortRandom.{runs_short}
+use Rattle.raf_run.proofs.program.run.Goals as goal
+
+pub returns-clause-one_end : goal.returns-clause-one_end
+returns-clause-one_end g c = one_end
+
+pub returns-clause-one_text : goal.returns-clause-one_text
+returns-clause-one_text g c = one_text
+
+pub returns-clause-completes : goal.returns-clause-completes
+returns-clause-completes g c = completes
+
+pub returns-clause-completes_in_memory : goal.returns-clause-completes_in_memory
+returns-clause-completes_in_memory g c = completes_in_memory
+
+pub returns-clause-runs_short : goal.returns-clause-runs_short
+returns-clause-runs_short g c = runs_short

@@ -1,0 +1,85 @@
+//! The words that the program is started with.
+ghost use Rattle.std.specs.Prelude.{◌≡◌, ◌∷◌, [], List, ℕ, map, string_bytes};
+ghost use Rattle.raf_script.specs.Words.{number};
+ghost use Rattle.raf_run.specs.Words as spec;
+ghost use Rattle.raf_run.specs.Words.{form_of};
+
+use raf_script::number_of;
+use std::marker::Model;
+
+/// A demo has at most this many writes.
+const MOST: u64 = 1000;
+
+/// What the program is asked for.
+#[derive(Clone, Copy, Debug, PartialEq, Eq)]
+pub enum Form {
+    /// `script`: a script is read, and run in memory.
+    Script,
+    /// `demo <n>`: the commands of the demo with so many writes.
+    Demo(u64),
+    /// `file <path>`: a script is read, and run over a disk.
+    File,
+}
+
+/// The words after the program's name.
+#[derive(Drop)]
+pub struct Words {
+    words: Vec<String>,
+}
+
+impl Model for Words {
+    ghost Value = { List (List ℕ) };
+
+    ghost view = { λ w. map string_bytes w.words.items };
+}
+
+// The demo of the number that a word spells.
+fn demo_of(word: &[u8]) -> Option<Form>
+    ensures { result ≡ spec.demo_of (number 64 word.now) }
+{
+    match number_of(word) {
+        Some(n) if n <= MOST => Some(Form::Demo(n)),
+        _ => None,
+    }
+}
+
+// The form of two words.
+fn pair_of(word: &[u8], argument: &[u8]) -> Option<Form>
+    ensures { result ≡ form_of (word.now ∷ argument.now ∷ []) }
+{
+    if word == b"demo".as_slice() {
+        demo_of(argument)
+    } else if word == b"file".as_slice() {
+        Some(Form::File)
+    } else {
+        None
+    }
+}
+
+impl Words {
+    /// These words.
+    pub fn new(words: Vec<String>) -> Words
+        ensures { result ≡ map string_bytes words.items }
+    {
+        Words { words }
+    }
+
+    /// What they ask for, or None where they are no form of the program.
+    pub fn form(&self) -> Option<Form>
+        ensures { result ≡ form_of self.now }
+    {
+        match self.words.as_slice() {
+            [word] if word.as_str() == "script" => Some(Form::Script),
+            [word, argument] => pair_of(word.as_bytes(), argument.as_bytes()),
+            _ => None,
+        }
+    }
+
+    /// The path of a disk, where they ask for one.
+    pub fn path(&self) -> Option<&str> {
+        match self.words.as_slice() {
+            [word, path] if word.as_str() == "file" => Some(path.as_str()),
+            _ => None,
+        }
+    }
+}

@@ -1,7 +1,0 @@
-use Rattle.std.proofs.Common.{◌≡◌, ◌∷◌}
-use Rattle.raf.specs.declared.command.Command.TheVariants.{Truncate}
-use Rattle.raf_tool.specs.Demo.{demo_writes}
-use Rattle.raf_tool.proofs.demo.commands_of.Given as goal
-
-abbrev pub invariant-loop-number : goal.invariant-loop-number
-invariant-loop-number l = l.commands ≡ Truncate 200000 ∷ demo_writes l.number

@@ -1,6 +1,0 @@
-use Rattle.raf_tool.specs.Text.{reply_line}
-use Rattle.raf_tool.proofs.PutLemmas.{one_line}
-use Rattle.raf_tool.proofs.output.put_at.Goals as goal
-
-pub returns-in-Some : goal.returns-in-Some
-returns-in-Some g c = rw (one_line reply_line c.args.replies.now c.args.index c.in-Some.reply.now (c.in-Some.ensures.there c.requires)) c.put_reply.ensures

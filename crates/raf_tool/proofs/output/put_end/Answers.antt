@@ -1,5 +1,0 @@
-use Rattle.raf_tool.proofs.PutLemmas.{puts_then}
-use Rattle.raf_tool.proofs.output.put_end.Goals as goal
-
-pub returns : goal.returns
-returns g c = puts_then c.in_ok-put_outcome.ensures c.put_storage.ensures
