@@ -1,8 +1,10 @@
-//! Encrypted files: at a path, with a commitment, and by lists of commands.
+//! Encrypted files: at a path, with a commitment and proofs, and by lists of commands.
 use aegis::raf::{
     Aegis256, Command, Data, FileIo, MemIo, NoMerkle, Raf, RafBuilder, Reply, Sha256Hasher, VecRng,
     Verdict, clash, session,
 };
+use raf_check::check_sha256;
+use raf_proof::prove;
 use std::alloc::Global;
 use std::fs;
 use std::test::Fail;
@@ -85,6 +87,21 @@ fn with_two_holders_of_a_commitment(rt: HostRuntime) -> Result<(), Fail> {
     assert!(rt; said(&mut ours, &mut theirs)? == "we hold the same content");
     theirs.write(b"other", 0)?;
     assert!(rt; said(&mut ours, &mut theirs)? == "we committed to different things");
+    Ok(())
+}
+
+#[test]
+fn with_a_proof_for_a_client(rt: HostRuntime) -> Result<(), Fail> {
+    let alloc = rt.alloc();
+    let mut file = committed(alloc, b"entry")?;
+    let mut commitment = [0; 32];
+    file.merkle_commitment(&mut commitment)?;
+    let Some(proof) = prove(alloc, &mut file, 0)? else {
+        return Ok(());
+    };
+    let proof = proof.to_bytes(alloc)?;
+    let is_in_the_file = check_sha256(&commitment, b"entry", &proof) == Some(true);
+    assert!(rt; is_in_the_file && check_sha256(&commitment, b"other", &proof) == Some(false));
     Ok(())
 }
 

@@ -6,6 +6,7 @@ mod cases;
 mod comparing;
 mod playing;
 mod programs;
+mod proving;
 mod questions;
 mod report;
 mod steps;

@@ -1,5 +1,6 @@
 //! A run of a case: a file that is made or opened and asked, or a session.
 use crate::bench::{Bench, Hashing};
+use crate::proving::{prove_all, prove_one};
 use crate::report::Report;
 use crate::steps::{Move, Step, commands_of};
 use crate::words::Fault;
@@ -173,6 +174,8 @@ pub fn take<A: Algorithm, H: MerkleHasher>(
             Some(len) => report.number("hash-len", len as u64),
             None => report.line("no hash"),
         },
+        Step::Prove(index) => prove_one::<A, H>(alloc, file, *index, report),
+        Step::ProveAll(chunk_size) => prove_all::<A, H>(alloc, file, *chunk_size, report),
         Step::Glide(_) => Err(Fault::Line),
     }
 }

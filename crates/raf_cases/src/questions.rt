@@ -1,5 +1,6 @@
-//! Lines that ask one thing: what a header tells, a derived key, the length of a storage.
+//! Lines that ask one thing: what a header tells, a derived key, the length of a storage, what a proof shows.
 use crate::bench::Bench;
+use crate::proving::{ask_changed, ask_check};
 use crate::report::Report;
 use crate::words::{Fault, chunk_size_of, data, key_of, number};
 use raf::{MemIo, derive_key, probe};
@@ -70,6 +71,21 @@ pub fn ask(
         ["layout", nonce_len, tag_len, chunk_size, size] => {
             let chunk_size = chunk_size_of(chunk_size)?;
             ask_layout((*nonce_len, *tag_len), chunk_size, number(size)?, report)
+        }
+        ["check", commitment, chunk, proof] => {
+            let (commitment, chunk) = (data(alloc, commitment)?, data(alloc, chunk)?);
+            ask_check(
+                alloc,
+                bench,
+                &commitment,
+                &chunk,
+                &data(alloc, proof)?,
+                report,
+            )
+        }
+        ["check-changed", commitment, chunk, proof] => {
+            let (commitment, chunk) = (data(alloc, commitment)?, data(alloc, chunk)?);
+            ask_changed(alloc, &commitment, &chunk, &data(alloc, proof)?, report)
         }
         _ => bench.set(alloc, words),
     }

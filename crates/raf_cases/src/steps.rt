@@ -32,6 +32,10 @@ pub enum Step {
     Asked,
     /// How long a hash is.
     HashLen,
+    /// A proof of the chunk at an index.
+    Prove(u64),
+    /// Proofs of all chunks, which have so many bytes but for the last one.
+    ProveAll(usize),
     /// Something of a cursor.
     Glide(Move),
 }
@@ -90,6 +94,8 @@ pub fn step_of(alloc: Global, words: &[&str]) -> Result<Step, Fault> {
         }
         ["asked"] => Step::Asked,
         ["hash-len"] => Step::HashLen,
+        ["prove", index] => Step::Prove(number(index)?),
+        ["prove-all", chunk_size] => Step::ProveAll(number(chunk_size)? as usize),
         ["seek", ..] | ["read", _] | ["write", _] | ["flush"] | ["last-error"] => {
             Step::Glide(move_of(alloc, words)?)
         }

@@ -1,0 +1,4 @@
+pub mod Binding
+pub mod Claim
+pub mod Siblings
+pub mod Written

@@ -1,0 +1,4 @@
+-- Lemmas.
+pub mod Gathered
+pub mod Handles
+pub mod Proved
