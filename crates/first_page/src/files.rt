@@ -1,18 +1,23 @@
 //! Encrypted files: at a path, with a commitment and proofs, and by lists of commands.
 use aegis::raf::{
-    Aegis256, Command, Data, FileIo, MemIo, NoMerkle, Raf, RafBuilder, Reply, Sha256Hasher, VecRng,
-    Verdict, clash, session,
+    Aegis256, Command, Data, FileIo, MemIo, NoMerkle, OsRng, Raf, RafBuilder, Reply, Sha256Hasher,
+    VecRng, Verdict, clash, session,
 };
 use raf_check::check_sha256;
 use raf_proof::prove;
+use rand_chacha::ChaCha20Rng;
+use rand_core::SeedableRng;
 use std::alloc::Global;
 use std::fs;
+use std::random::RandomSource;
 use std::test::Fail;
 
 #[test]
 fn at_a_path(rt: HostRuntime) -> Result<(), Fail> {
     let (alloc, key, path) = (rt.alloc(), [7; 32], "first_page.raf");
-    let rng = VecRng::new(Vec::from_elem(alloc, 5, 64)?);
+    let mut seed = [0; 32];
+    rt.fill_bytes(&mut seed)?;
+    let rng = OsRng::new(ChaCha20Rng::from_seed(seed));
     let mut file = match Raf::<Aegis256, FileIo, _, NoMerkle>::create_file(
         &rt, alloc, path, &key, rng,
     ) {
