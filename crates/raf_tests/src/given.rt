@@ -10,12 +10,6 @@ pub const SHORT_KEY: [u8; 16] = [
     5, 18, 31, 44, 57, 70, 83, 96, 109, 122, 135, 148, 161, 174, 187, 200,
 ];
 
-// A key of 32 bytes, by the same rule, modulo 256.
-pub const LONG_KEY: [u8; 32] = [
-    5, 18, 31, 44, 57, 70, 83, 96, 109, 122, 135, 148, 161, 174, 187, 200, 213, 226, 239, 252, 9,
-    22, 35, 48, 61, 74, 87, 100, 113, 126, 139, 152,
-];
-
 /// A file in memory.
 pub type Plain = Raf<Aegis128L, MemIo, VecRng, NoMerkle>;
 

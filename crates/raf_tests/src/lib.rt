@@ -18,5 +18,3 @@ mod standard;
 mod texts;
 #[cfg(test)]
 mod trees;
-#[cfg(test)]
-mod unprotected;

@@ -1,37 +1,7 @@
-//! Trees without a file: hashes where there is no hasher, a thousand chunks, and a caller that carries a tree through changes.
+//! A tree without a file: a caller that carries it through changes.
 use crate::carrier::change;
-use raf_tree::{FakeHasher, MerkleHasher, NoMerkle, Sha256Hasher, Tree, hashing_laws};
+use raf_tree::{Sha256Hasher, Tree};
 use std::test::Fail;
-
-#[test]
-fn without_a_hasher_every_hash_is_zeros(rt: HostRuntime) {
-    hashing_laws::<NoMerkle>();
-    let mut none = NoMerkle::new();
-    assert_eq!(rt; none.hash_len(), 8);
-    let mut out = [1u8; 8];
-    assert!(rt; none.hash_leaf(&mut out, b"a", 0).is_ok() && out == [0; 8]);
-    out = [1; 8];
-    assert!(rt; none.hash_parent(&mut out, &[1; 8], &[2; 8], 1, 0).is_ok() && out == [0; 8]);
-    out = [1; 8];
-    assert!(rt; none.hash_empty(&mut out, 0, 1).is_ok() && out == [0; 8]);
-    out = [1; 8];
-    assert!(rt; none.hash_commitment(&mut out, &[1; 8], b"id", 1).is_ok() && out == [0; 8]);
-}
-
-#[test]
-fn a_thousand_chunks_cost_each_node_once(rt: HostRuntime) {
-    let alloc = rt.alloc();
-    let mut hasher = FakeHasher::new(8, Vec::new(alloc));
-    let mut tree = Tree::new(alloc, 8, 1024).expect(&rt, "a tree");
-    for index in 0..1000u64 {
-        assert!(rt; tree.put_leaf(&mut hasher, index, b"").is_ok());
-    }
-    assert!(rt; tree.update(&mut hasher, 1000, 0, 1000).is_ok());
-    assert_eq!(rt; hasher.calls(), 2003);
-    assert!(rt; tree.put_leaf(&mut hasher, 7, b"").is_ok());
-    assert!(rt; tree.update(&mut hasher, 1000, 7, 8).is_ok());
-    assert_eq!(rt; hasher.calls(), 2003 + 11);
-}
 
 #[test]
 fn a_change_of_a_file_carries_its_tree(rt: HostRuntime) -> Result<(), Fail> {
