@@ -7,5 +7,4 @@ mod ciphers;
 #[cfg(test)]
 mod files;
 mod generic;
-#[cfg(test)]
-mod names;
+pub mod names;
