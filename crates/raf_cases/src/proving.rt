@@ -35,8 +35,7 @@ pub fn prove_all<A: Algorithm, H: MerkleHasher>(
     if let Err(error) = committed {
         return report.kind("refused", error.kind());
     }
-    let mut value = [0u8; 32];
-    value.copy_from_slice(&commitment[..32]);
+    let value = commitment.get(..32).unwrap_or(&[]);
     let mut proofs = Vec::new(alloc);
     let mut accepted = 0u64;
     for index in 0..file.chunk_count() {
@@ -50,7 +49,7 @@ pub fn prove_all<A: Algorithm, H: MerkleHasher>(
             return report.number("no chunk", index);
         };
         chunk.truncate(count);
-        if check_number(&value, &chunk, &proof) == 1 {
+        if check_number(value, &chunk, &proof) == 1 {
             accepted = accepted.saturating_add(1);
         }
         proofs.extend_from_slice(&proof)?;
