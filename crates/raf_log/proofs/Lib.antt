@@ -1,0 +1,15 @@
+pub mod Spelled
+pub mod Walks
+pub mod Looks
+pub mod Rooms
+pub mod Starts
+pub mod Extents
+pub mod Idle
+pub mod Appends
+pub mod Gets
+pub mod Commits
+pub mod Asked
+pub mod Runs
+pub mod Sweeps
+pub mod Meetings
+pub mod Completes

@@ -1,0 +1,6 @@
+use Rattle.std.proofs.Common.{◌≡◌, take, map}
+use Rattle.raf_log.specs.Session.{log_room_for}
+use Rattle.raf_log.proofs.serving.rooms_of.Given as goal
+
+abbrev pub invariant-loop-command : goal.invariant-loop-command
+invariant-loop-command l = l.rooms.items ≡ map (log_room_for l.hash_len) (take l.command-index l.commands)
