@@ -1,44 +1,34 @@
 -- An entry is put at the end of a log.
-use Rattle.std.proofs.Common.{◌≡◌, inl, inr, Bool, true, false, cond, ◌&&◌, ◌||◌, not, ℕ, zero, suc, ◌+◌, ◌-◌, ◌<◌, ◌≤◌, List, [], ◌∷◌, ◌++◌, length, take, drop, replicate, map, Option, Some, None, refl, sym, ◌∙◌, ap, subst, arith, append_assoc, length-append}
-use Rattle.std.specs.Prelude.{◌⊎◌, nat_lt, slice_get, unwrap_or, is_some}
-use Rattle.std.specs.Option.{option_map}
-use Rattle.std.proofs.lemmas.Bool.{false≢true}
+use Rattle.std.proofs.Common.{◌≡◌, inl, Bool, true, false, cond, ℕ, ◌+◌, ◌-◌, ◌<◌, ◌≤◌, List, [], ◌∷◌, ◌++◌, length, take, drop, replicate, Option, Some, None, refl, sym, ◌∙◌, ap, subst, arith}
+use Rattle.std.specs.Prelude.{nat_lt}
 use Rattle.std.proofs.lemmas.Bool.Decides.{nat_tests}
 use Rattle.std.proofs.lemmas.List.{take_all, drop_all, append-nil}
-use Rattle.raf_io.specs.Storage.{resized, spliced}
+use Rattle.raf_io.specs.Storage.{spliced}
 use Rattle.raf_tree.specs.Hashing.{Hashing}
-use Rattle.raf_tree.specs.Tree.{root, leaves}
-use Rattle.raf_tree.specs.Kept.{Kept as Tree, kept, tree_height}
 use Rattle.raf_format.specs.Cipher.{Cipher}
 use Rattle.raf_format.specs.File.{File}
-use Rattle.raf_format.specs.declared.header.Header.{Header}
-use Rattle.raf.specs.Concern.{fits, valid, none_missing, needed, size_after}
+use Rattle.raf.specs.Concern.{fits}
 use Rattle.raf.specs.Due.{Due, Answers, is_fault}
-use Rattle.raf.specs.Due.Due.{Exactly, Merkle}
-use Rattle.raf.specs.Apply.{apply, answer, changed, cause_of}
-use Rattle.raf.specs.Outside.{Outside}
-use Rattle.raf.specs.Handle.{Handle, Holds, WithTree, OfTree, KeptAnswer, Grown, limit_of, outline}
-use Rattle.raf.specs.Stepped.{Stepped, Answered, Stays, refuses, with_size}
-use Rattle.raf.specs.Session.{present, TreeDecides}
-use Rattle.raf.specs.Content.{IsWhole, content, Written, Contents}
+use Rattle.raf.specs.Due.Due.{Exactly}
+use Rattle.raf.specs.Apply.{apply}
+use Rattle.raf.specs.Handle.{Handle, Holds, WithTree, OfTree, KeptAnswer, Grown, limit_of}
+use Rattle.raf.specs.Stepped.{Stepped, Answered}
+use Rattle.raf.specs.Content.{content, Written, Contents}
 use Rattle.raf.specs.declared.command.Command.{Command}
 use Rattle.raf.specs.declared.command.Command.TheVariants as asks
 use Rattle.raf.specs.declared.command.Reply.{Reply}
 use Rattle.raf.specs.declared.command.Reply.TheVariants as answers
 use Rattle.raf_io.specs.declared.errors.ErrorKind.{ErrorKind}
-use Rattle.raf_io.specs.declared.errors.ErrorKind.TheVariants.{Io, InvalidArgument, AuthenticationFailed, AlreadyExists, NotFound, Overflow, MerkleNotEnabled, CorruptedChunk, Rng, Hash, Broken, OutOfMemory}
-use Rattle.raf_log.specs.Entries.{spelled, spell, AreEntries, Entries, starts_from}
-use Rattle.raf_log.specs.Log.{LogHandle, LogFile, IsLog, KeepsLog, Extent, extent_of, log_handle, entry_end}
-use Rattle.raf_log.specs.Call.{is_log_fault, asked_of, known_reply, log_reply, appends, line_len, extent_after, LogDue, LogAnswers, appended, found, apply_log, LogAnswered, LogStepped}
-use Rattle.raf_log.specs.declared.command.LogCommand.{LogCommand}
+use Rattle.raf_io.specs.declared.errors.ErrorKind.TheVariants.{Overflow}
+use Rattle.raf_log.specs.Entries.{spelled, spell, starts_from}
+use Rattle.raf_log.specs.Log.{LogHandle, LogFile, KeepsLog, extent_of, log_handle}
+use Rattle.raf_log.specs.Call.{log_reply, appends, LogDue, appended, apply_log, LogAnswered, LogStepped}
 use Rattle.raf_log.specs.declared.command.LogCommand.TheVariants as command
-use Rattle.raf_log.specs.declared.command.LogReply.{LogReply}
 use Rattle.raf_log.specs.declared.command.LogReply.TheVariants as reply
 use Rattle.raf_log.specs.declared.error.LogErrorKind.TheVariants.{Raf, TooLong}
 use Rattle.raf_log.proofs.Spelled.{spelled_long, spell-push, entries-push, starts-push, length-starts}
-use Rattle.raf_log.proofs.Starts.{Stood, stood, none_stood}
 use Rattle.raf_log.proofs.Idle.{answered_by, asked_step}
-use Rattle.raf_log.proofs.Extents.{size_refused, size_stays, write_size}
+use Rattle.raf_log.proofs.Extents.{size_refused, write_size}
 
 -- an entry at the end of the bytes
 append_at : (at : ℕ) (new b : List ℕ) → length b ≡ at → spliced at new b ≡ b ++ new

@@ -1,5 +1,5 @@
 -- Valid input and no fault: a log is opened, and a session answered, but for want of memory.
-use Rattle.std.proofs.Common.{◌≡◌, inl, inr, true, false, ℕ, ◌^◌, ◌<◌, List, length, Some, Result, Ok, Err, refl, sym, ◌∙◌, ap, subst, arith}
+use Rattle.std.proofs.Common.{◌≡◌, inl, inr, false, ℕ, ◌^◌, ◌<◌, List, Some, Result, Ok, Err, refl, sym, ◌∙◌, ap, subst, arith}
 use Rattle.std.specs.Prelude.{◌⊎◌, IfOk, IfErr}
 use Rattle.std.proofs.lemmas.Bool.{false≢true}
 use Rattle.raf_tree.specs.Hashing.{Hashing}
@@ -13,7 +13,6 @@ use Rattle.raf.specs.Session.{Ground}
 use Rattle.raf.specs.Content.{content}
 use Rattle.raf.specs.Complete.{NoneFailed, CanOpen, Complete}
 use Rattle.raf_io.specs.declared.errors.ErrorKind.TheVariants.{Io, InvalidArgument, AuthenticationFailed, AlreadyExists, NotFound, Overflow, MerkleNotEnabled, CorruptedChunk, Rng, Hash, Broken, OutOfMemory}
-use Rattle.raf_log.specs.Entries.{spell}
 use Rattle.raf_log.specs.Kinds.{log_kind, opening_kind}
 use Rattle.raf_log.specs.Log.{LogFile, IsLog}
 use Rattle.raf_log.specs.Opening.{IsNoLog, WhyNoLog, LogFault, LogNotOpened}

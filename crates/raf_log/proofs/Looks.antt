@@ -1,15 +1,14 @@
 -- What a read of the file leaves, and why it is refused.
-use Rattle.std.proofs.Common.{◌≡◌, inl, inr, Bool, true, false, cond, ◌&&◌, ℕ, zero, suc, ◌+◌, ◌-◌, ◌*◌, ◌<◌, ◌≤◌, min, max, List, [], ◌∷◌, ◌++◌, length, take, drop, Option, Some, None, refl, sym, ◌∙◌, ap, subst, arith, length-take, length-drop}
-use Rattle.std.specs.Prelude.{◌⊎◌, nat_eq, nat_lt}
+use Rattle.std.proofs.Common.{◌≡◌, inl, inr, Bool, true, false, cond, ℕ, zero, suc, ◌+◌, ◌*◌, ◌≤◌, min, max, List, ◌++◌, length, take, drop, Option, Some, None, refl, sym, ◌∙◌, ap, subst, arith, length-take, length-drop}
+use Rattle.std.specs.Prelude.{nat_eq, nat_lt}
 use Rattle.std.proofs.lemmas.Bool.Decides.{nat_tests}
 use Rattle.std.proofs.lemmas.Bool.{false≢true}
 use Rattle.std.proofs.lemmas.List.{nil_from_length, take_all}
-use Rattle.raf_io.specs.Source.{Takes, TakesAtMost}
+use Rattle.raf_io.specs.Source.{Takes}
 use Rattle.raf_tree.specs.Hashing.{Hashing}
 use Rattle.raf_tree.specs.Tree.{height}
 use Rattle.raf_format.specs.Cipher.{Cipher}
 use Rattle.raf_format.specs.File.{File, chunk_count, file_layout}
-use Rattle.raf_format.specs.declared.header.Header.{Header}
 use Rattle.raf.specs.Concern.{valid, sum_where, none_missing}
 use Rattle.raf.specs.Due.{Due, Answers, is_refused, is_fault}
 use Rattle.raf.specs.Due.Due.{Exactly, Merkle}
@@ -27,7 +26,6 @@ use Rattle.raf_io.specs.declared.errors.ErrorKind.{ErrorKind}
 use Rattle.raf_io.specs.declared.errors.ErrorKind.TheVariants.{Io, InvalidArgument, AuthenticationFailed, AlreadyExists, NotFound as Missing, Overflow, MerkleNotEnabled, CorruptedChunk, Rng, Hash, Broken, OutOfMemory}
 use Rattle.raf_log.specs.Opening.{Looked, ReadsAtMost}
 use Rattle.raf_log.specs.Sweep.{Calm, PieceRead, NotFound}
-use Rattle.raf_log.specs.declared.error.LogErrorKind.{LogErrorKind}
 use Rattle.raf_log.specs.declared.error.LogErrorKind.TheVariants as log
 use Rattle.raf.proofs.Moves.{quiet_same, moved_same, moved_any, moved_less}
 

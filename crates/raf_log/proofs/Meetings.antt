@@ -1,5 +1,5 @@
 -- A log's session, from an opening and the run of its commands.
-use Rattle.std.proofs.Common.{◌≡◌, inl, inr, Bool, true, false, ℕ, ◌+◌, ◌<◌, ◌≤◌, ◌^◌, List, [], ◌∷◌, length, take, Option, Some, None, Result, Ok, Err, refl, sym, ◌∙◌, ap, subst, arith}
+use Rattle.std.proofs.Common.{◌≡◌, inl, inr, false, ℕ, ◌+◌, ◌<◌, ◌≤◌, ◌^◌, List, [], ◌∷◌, length, take, Option, Some, None, Result, Ok, Err, refl, sym, ◌∙◌, ap, subst, arith}
 use Rattle.std.specs.Prelude.{◌⊎◌, unwrap_or}
 use Rattle.std.specs.Option.{option_map}
 use Rattle.std.proofs.lemmas.Bool.{false≢true}
@@ -8,25 +8,24 @@ use Rattle.raf_io.specs.Source.{Takes}
 use Rattle.raf_tree.specs.Hashing.{Hashing}
 use Rattle.raf_tree.specs.Kept.{Kept as Tree}
 use Rattle.raf_format.specs.Cipher.{Cipher}
-use Rattle.raf_format.specs.File.{File, Opens, Shape, chunk_count, file_layout, layout_len, shape_of}
+use Rattle.raf_format.specs.File.{File, Shape, chunk_count, file_layout, layout_len, shape_of}
 use Rattle.raf_format.specs.declared.header.Header.{Header}
 use Rattle.raf_io.specs.Kinds.{kind_of}
 use Rattle.raf_io.specs.declared.errors.Error.{Error}
 use Rattle.raf_io.specs.declared.errors.Error.TheVariants as error
-use Rattle.raf_io.specs.declared.errors.ErrorKind.{ErrorKind}
 use Rattle.raf_io.specs.declared.errors.ErrorKind.TheVariants.{Io, InvalidArgument, AuthenticationFailed, AlreadyExists, NotFound, Overflow, MerkleNotEnabled, CorruptedChunk, Rng, Hash, Broken, OutOfMemory}
 use Rattle.raf.specs.Apply.{longest}
 use Rattle.raf.specs.Image.{asked_in, changes_in, traffic_in, calls_in}
 use Rattle.raf.specs.Outside.{Outside, Kept, Quiet, Moved}
 use Rattle.raf.specs.Handle.{Handle, Holds, WithTree, Grown, limit_of, hash_len_of, outline}
 use Rattle.raf.specs.Opening.{Settings, NotOpened, Opened, Room, opening_traffic, opening_calls}
-use Rattle.raf.specs.Session.{Ground, Whole, Faulted, ByNumbers, CutShort, AllShaped, Ran, begun, asked_along}
+use Rattle.raf.specs.Session.{Ground, Whole, Faulted, CutShort, AllShaped, Ran, begun, asked_along}
 use Rattle.raf.specs.Ran.{ground, Ended}
 use Rattle.raf.specs.declared.command.Command.{Command}
 use Rattle.raf.specs.declared.command.Reply.{Reply}
 use Rattle.raf_log.specs.Kinds.{log_kind, opening_refusal, opening_kind}
 use Rattle.raf_log.specs.Log.{LogHandle, LogFile, KeepsLog, Extent, extent_of, extent_in}
-use Rattle.raf_log.specs.Opening.{Looked, LogOpened, LogNotOpened, WhyNoLog, IsNoLog, LogFault, pieces_traffic}
+use Rattle.raf_log.specs.Opening.{Looked, LogOpened, LogNotOpened, WhyNoLog, IsNoLog, pieces_traffic}
 use Rattle.raf_log.specs.Parts.{Parts}
 use Rattle.raf_log.specs.Session.{log_rooms, LogWhole, LogFaulted, LogFileRan, LogRan, LogByNumbers, NoLog, LogMeets}
 use Rattle.raf_log.specs.Ran.{LogEnded, LogServes, ServesFile}

@@ -1,26 +1,22 @@
 -- Commands on an open log, one after the other.
-use Rattle.std.proofs.Common.{◌≡◌, inl, inr, Bool, true, false, ℕ, ◌+◌, List, [], ◌∷◌, ◌++◌, length, take, Option, Some, None, Result, Ok, Err, refl, sym, ◌∙◌, ap, subst, arith, length-append, append_assoc}
-use Rattle.std.specs.Prelude.{◌⊎◌}
+use Rattle.std.proofs.Common.{◌≡◌, inl, inr, true, false, ℕ, List, [], ◌∷◌, ◌++◌, length, take, Option, Some, None, Result, Ok, Err, refl, sym, ◌∙◌, ap, subst, arith, length-append, append_assoc}
 use Rattle.std.specs.Result.{IsOkAnd}
 use Rattle.std.proofs.lemmas.Bool.{false≢true}
 use Rattle.std.proofs.lemmas.List.{append-nil, take_all, take_at}
 use Rattle.raf_tree.specs.Hashing.{Hashing}
 use Rattle.raf_format.specs.Cipher.{Cipher, IsLawful}
-use Rattle.raf_format.specs.File.{File, Opens}
-use Rattle.raf.specs.Due.{is_fault}
+use Rattle.raf_format.specs.File.{Opens}
 use Rattle.raf.specs.Outside.{Outside, Caused}
-use Rattle.raf.specs.Handle.{Handle, Holds, WithTree, Grown, limit_of, outline}
-use Rattle.raf.specs.Stepped.{Stepped}
+use Rattle.raf.specs.Handle.{WithTree, Grown, limit_of}
 use Rattle.raf.specs.Session.{Ground}
 use Rattle.raf.specs.Ran.{ground, Progress}
 use Rattle.raf.specs.declared.command.Command.{Command}
 use Rattle.raf.specs.declared.command.Reply.{Reply}
 use Rattle.raf_io.specs.declared.errors.ErrorKind.{ErrorKind}
-use Rattle.raf_io.specs.declared.errors.ErrorKind.TheVariants.{Io, InvalidArgument, AuthenticationFailed, AlreadyExists, NotFound, Overflow, MerkleNotEnabled, CorruptedChunk, Rng, Hash, Broken, OutOfMemory}
 use Rattle.raf_log.specs.Log.{LogHandle, LogFile, KeepsLog, Extent, extent_of}
 use Rattle.raf_log.specs.Call.{is_log_fault, asked_of, known_reply, log_reply, LogAnswers, apply_log, extent_after, LogAnswered, LogStepped}
 use Rattle.raf_log.specs.Parts.{Parts, extent_along}
-use Rattle.raf_log.specs.Session.{AllLogAnswer, log_after, OpensLog, LogWhole, LogFaulted}
+use Rattle.raf_log.specs.Session.{AllLogAnswer, log_after}
 use Rattle.raf_log.specs.Ran.{LogSoFar, PartsSoFar, LogProgress, LogEnded, LogServes}
 use Rattle.raf_log.specs.declared.error.LogError.{LogError}
 use Rattle.raf_log.specs.declared.command.LogCommand.{LogCommand}

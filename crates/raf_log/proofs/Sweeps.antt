@@ -1,9 +1,8 @@
 -- A file is read piece by piece, and the entries are found in it.
-use Rattle.std.proofs.Common.{◌≡◌, ◌≢◌, inl, inr, Bool, true, false, cond, ◌&&◌, ℕ, zero, suc, ◌+◌, ◌-◌, ◌*◌, ◌/◌, ◌<◌, ◌≤◌, min, List, [], ◌∷◌, ◌++◌, length, take, drop, Option, Some, None, refl, sym, ◌∙◌, ap, subst, arith, length-take, length-drop, take-append-drop, take-add, drop-drop}
+use Rattle.std.proofs.Common.{◌≡◌, ◌≢◌, inl, inr, Bool, true, false, cond, ◌&&◌, ℕ, zero, suc, ◌+◌, ◌-◌, ◌*◌, ◌/◌, ◌<◌, ◌≤◌, min, List, ◌++◌, length, take, drop, Option, Some, None, refl, sym, ◌∙◌, ap, subst, arith, length-take, length-drop, take-append-drop, take-add, drop-drop}
 use Rattle.std.proofs.Math.Nat.{lt-div-mul-add}
-use Rattle.std.specs.Prelude.{◌⊎◌, nat_eq, nat_lt}
+use Rattle.std.specs.Prelude.{nat_eq, nat_lt}
 use Rattle.std.specs.Option.{option_map}
-use Rattle.std.proofs.lemmas.Bool.{false≢true}
 use Rattle.std.proofs.lemmas.Bool.Decides.{nat_tests}
 use Rattle.std.proofs.lemmas.List.{drop_all, append-nil, drop-take, take-take, take-append-le, drop-append-le, take_at}
 use Rattle.raf_tree.specs.Kept.{Kept as Tree}
@@ -18,7 +17,7 @@ use Rattle.raf.specs.Content.{IsWhole, IsWholeTo, content, Contents}
 use Rattle.raf.specs.declared.command.Command.TheVariants as asks
 use Rattle.raf_io.specs.declared.errors.ErrorKind.TheVariants.{Io, InvalidArgument, AuthenticationFailed, AlreadyExists, NotFound as Missing, Overflow, MerkleNotEnabled, CorruptedChunk, Rng, Hash, Broken, OutOfMemory}
 use Rattle.raf_log.specs.Entries.{spell}
-use Rattle.raf_log.specs.Log.{LogHandle, Spaced, log_handle}
+use Rattle.raf_log.specs.Log.{Spaced, log_handle}
 use Rattle.raf_log.specs.Walk.{Walked}
 use Rattle.raf_log.specs.Opening.{Looked, LogOpened, LogNotOpened, WhyNoLog, LogFault, ReadsAtMost, reads_traffic, pieces_traffic}
 use Rattle.raf_log.specs.Sweep.{Calm, Passed, Shows, PieceRead, FoundAll, NotFound}

@@ -1,12 +1,12 @@
 -- The entries of a log are found from one to the next.
-use Rattle.std.proofs.Common.{◌≡◌, ◌≢◌, inl, inr, ℕ, ◌+◌, ◌-◌, ◌^◌, ◌<◌, ◌≤◌, List, [], ◌∷◌, ◌++◌, length, take, drop, get_or, None, refl, sym, ap, ◌∙◌, arith, length-append, length-take, length-drop, take-append-drop}
+use Rattle.std.proofs.Common.{◌≡◌, ◌≢◌, inl, inr, ℕ, ◌+◌, ◌-◌, ◌^◌, ◌<◌, ◌≤◌, List, [], ◌∷◌, ◌++◌, length, take, drop, get_or, None, refl, sym, ap, ◌∙◌, arith, length-take, length-drop, take-append-drop}
 use Rattle.std.specs.Prelude.{◌⊎◌}
 use Rattle.std.specs.Int.{w32, to_le_bytes}
 use Rattle.std.proofs.lemmas.List.{append_assoc, drop-drop, drop-take, take-take, get_or-take, get_or-drop, get_or_past}
 use Rattle.std.proofs.lemmas.Bool.{cases_lt}
 use Rattle.raf_log.specs.Entries.{spelled, spell, AreEntries, Entries, starts_from}
 use Rattle.raf_log.specs.Log.{Spaced}
-use Rattle.raf_log.specs.Walk.{Walks, Walked, Stands}
+use Rattle.raf_log.specs.Walk.{Walks, Stands}
 use Rattle.raf_log.proofs.Spelled.{same_len, spell_long, head_of, behind}
 
 -- one more

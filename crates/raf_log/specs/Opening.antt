@@ -1,5 +1,5 @@
 -- How a log is opened, and why not (this project's own).
-use Rattle.std.specs.Prelude.{◌≡◌, ℕ, zero, suc, ◌+◌, ◌-◌, ◌/◌, min, false, true, Some, None, List, Option, ⊤}
+use Rattle.std.specs.Prelude.{◌≡◌, ℕ, zero, suc, ◌+◌, ◌-◌, ◌/◌, min, false, true, None, List, Option, ⊤}
 use Rattle.raf_format.specs.Cipher.{Cipher}
 use Rattle.raf_format.specs.File.{File, file_layout}
 use Rattle.raf.specs.Concern.{none_missing}

@@ -1,16 +1,9 @@
-use Rattle.std.proofs.Common.{rules, arith, ◌≡◌, ◌≢◌, ◌+◌, ◌-◌, ◌<◌, ◌≤◌, List, ℕ, Bool, true, false, length, take, drop, ◌++◌, min, vec_len, refl, sym, ap, ◌∙◌, subst, length-take, length-append}
-use Rattle.std.specs.Prelude.{IfErr}
-use Rattle.std.proofs.lemmas.List.{take-take, take-append-le}
+use Rattle.std.proofs.Common.{rules, arith, ◌≡◌, ◌+◌, ◌-◌, List, ℕ, true, length, take, drop, ◌++◌, refl, sym, ap, subst}
 use Rattle.std.proofs.lemmas.Result.{err_from_is_err_and}
 use Rattle.raf_format.specs.Cipher.{cipher_of}
-use Rattle.raf_format.specs.File.{File}
-use Rattle.raf.specs.Handle.{limit_of}
-use Rattle.raf.specs.Image.{traffic_by}
-use Rattle.raf.specs.declared.command.Command.TheVariants.{Read}
 use Rattle.raf_log.specs.Kinds.{log_kind}
-use Rattle.raf_log.specs.Opening.{ReadsAtMost}
-use Rattle.raf_log.specs.Sweep.{Passed, Shows}
-use Rattle.raf_log.proofs.Sweeps.{Swept, begins, goes_on, shows_back, holds_on, shows_on, front_of, asked_first, asked_on, asked_done, refused_later, no_memory, not_formed, not_ended, found_all}
+use Rattle.raf_log.specs.Sweep.{Shows}
+use Rattle.raf_log.proofs.Sweeps.{begins, goes_on, shows_back, holds_on, shows_on, front_of, asked_first, asked_on, asked_done, refused_later, no_memory, not_formed, not_ended, found_all}
 use Rattle.raf_log.proofs.opening.find_entries.Goals as goal
 use Rattle.raf_log.proofs.opening.find_entries.Goals.{then-not-walk-via-then-not-walk, then-not-walk-via-else-not-walk+then-walk-size}
 

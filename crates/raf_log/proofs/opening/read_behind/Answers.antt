@@ -1,6 +1,5 @@
 use Rattle.std.proofs.Common.{arith, ◌≡◌, ℕ, ◌-◌, length, take, drop, subst, length-take, length-drop}
 use Rattle.raf_format.specs.Cipher.{cipher_of}
-use Rattle.raf_format.specs.File.{File}
 use Rattle.raf.specs.Handle.{limit_of}
 use Rattle.raf.specs.Image.{traffic_by}
 use Rattle.raf.specs.declared.command.Command.TheVariants.{Read}

@@ -1,6 +1,5 @@
 use Rattle.std.proofs.Common.{length, take, refl}
 use Rattle.raf_format.specs.Cipher.{cipher_of}
-use Rattle.raf.specs.Stepped.{read_reply}
 use Rattle.raf_io.specs.Kinds.{kind_of}
 use Rattle.raf.specs.declared.command.Reply.TheVariants.{Bytes, Refused}
 use Rattle.raf_log.proofs.Looks.{piece_read, refused, asked}

@@ -1,4 +1,4 @@
-use Rattle.std.proofs.Common.{arith, ◌≡◌, ◌≤◌, ℕ, ◌+◌, ◌-◌, List, ◌++◌, length, take, drop, sym, subst, ap, ◌∙◌, length-take, length-drop, length-append}
+use Rattle.std.proofs.Common.{arith, ◌≡◌, ℕ, ◌+◌, ◌-◌, length, take, drop, sym, subst, ap, ◌∙◌, length-take, length-drop}
 use Rattle.std.proofs.lemmas.List.{take-take}
 use Rattle.raf_format.specs.Cipher.{cipher_of}
 use Rattle.raf_format.specs.File.{File}

@@ -1,13 +1,10 @@
-use Rattle.std.proofs.Common.{arith, ◌≡◌, ◌≤◌, ◌<◌, ℕ, ◌+◌, ◌-◌, List, ◌++◌, length, take, drop, Some, None, refl, sym, subst, ap, ◌∙◌, length-take}
+use Rattle.std.proofs.Common.{arith, ◌≡◌, ◌<◌, ℕ, ◌+◌, ◌-◌, List, ◌++◌, length, take, drop, Some, None, refl, sym, subst, ap, ◌∙◌, length-take}
 use Rattle.std.specs.Prelude.{slice_get, unwrap_or}
 use Rattle.std.proofs.lemmas.List.{take-append-le}
 use Rattle.std.proofs.lemmas.Option.{slice_get_within}
 use Rattle.raf_format.specs.Cipher.{cipher_of}
-use Rattle.raf_format.specs.File.{File}
 use Rattle.raf.specs.Handle.{Holds}
 use Rattle.raf.specs.Read.{OldOrOpened}
-use Rattle.raf.specs.Stepped.{Stepped}
-use Rattle.raf.specs.declared.command.Command.TheVariants as asks
 use Rattle.raf.specs.declared.command.Reply.TheVariants as answers
 use Rattle.raf_io.specs.Kinds.{kind_of}
 use Rattle.raf_log.specs.Log.{LogHandle, log_handle}

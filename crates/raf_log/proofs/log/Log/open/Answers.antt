@@ -1,6 +1,5 @@
-use Rattle.std.proofs.Common.{sym, subst}
 use Rattle.raf_format.specs.Cipher.{cipher_of}
-use Rattle.raf_log.proofs.Sweeps.{opened, not_opened}
+use Rattle.raf_log.proofs.Sweeps.{opened}
 use Rattle.raf_log.proofs.log.Log.open.Goals as goal
 
 pub returns-in-Ok-clause-opened : goal.returns-in-Ok-clause-opened

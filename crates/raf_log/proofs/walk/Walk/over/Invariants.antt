@@ -1,4 +1,4 @@
-use Rattle.std.proofs.Common.{◌≡◌, ◌+◌, ◌-◌, ◌≤◌, List, ℕ, true, false, if◌then◌else◌}
+use Rattle.std.proofs.Common.{◌≡◌, ◌+◌, ◌-◌, ◌≤◌, List, ℕ, true, if◌then◌else◌}
 use Rattle.raf_log.specs.Log.{Spaced}
 use Rattle.raf_log.specs.Walk.{Walked, Stands}
 use Rattle.raf_log.proofs.walk.Walk.over.Given as goal

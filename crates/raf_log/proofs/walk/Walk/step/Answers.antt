@@ -1,8 +1,8 @@
-use Rattle.std.proofs.Common.{arith, ◌≡◌, inl, inr, ◌+◌, ◌-◌, ◌^◌, ◌<◌, ◌≤◌, List, ℕ, length, take, drop, get_or, true, Bool, sym, ap, ◌∙◌, subst}
+use Rattle.std.proofs.Common.{arith, ◌≡◌, inl, inr, ◌+◌, ◌-◌, ◌^◌, ◌<◌, List, ℕ, take, drop, get_or, true, Bool, sym, ap, ◌∙◌, subst}
 use Rattle.std.specs.Int.{w32, to_le_bytes, from_le_bytes}
 use Rattle.std.proofs.lemmas.Nat.{le_bytes_4}
 use Rattle.raf_log.specs.Log.{Spaced}
-use Rattle.raf_log.specs.Walk.{Walked, Stands}
+use Rattle.raf_log.specs.Walk.{Walked}
 use Rattle.raf_log.proofs.Walks.{stands_head, bytes_inside, ends_wrong, walks-push, spaced-push}
 use Rattle.raf_log.proofs.walk.Walk.step.Goals as goal
 use Rattle.raf_log.proofs.walk.Walk.step.Goals.{then-len-via-then-len, then-len-via-else-len+then-len-size}

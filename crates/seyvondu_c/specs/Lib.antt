@@ -1,0 +1,3 @@
+-- Definitions.
+pub mod Answers
+pub mod Lengths
