@@ -105,6 +105,8 @@ fn block_of(words: &[&str]) -> Option<Block> {
         ["open"] => Some(Block::Steps(Mode::Open)),
         ["cursor"] => Some(Block::Steps(Mode::Cursor)),
         ["session"] => Some(Block::Steps(Mode::Session)),
+        ["log"] => Some(Block::Steps(Mode::Log)),
+        ["log-session"] => Some(Block::Steps(Mode::LogSession)),
         ["clash"] => Some(Block::Both),
         ["script"] => Some(Block::Script),
         ["file"] => Some(Block::File),

@@ -4,6 +4,7 @@
 mod bench;
 mod cases;
 mod comparing;
+mod logging;
 mod playing;
 mod programs;
 mod proving;

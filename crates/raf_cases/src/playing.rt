@@ -1,5 +1,6 @@
 //! A run of a case: a file that is made or opened and asked, or a session.
 use crate::bench::{Bench, Hashing};
+use crate::logging::{end_log, log_commands_of, serve_log};
 use crate::proving::{prove_all, prove_one};
 use crate::report::Report;
 use crate::steps::{Move, Step, commands_of};
@@ -8,6 +9,7 @@ use raf::{
     Algorithm, Command, Error, ErrorKind, FakeHasher, MemIo, MerkleHasher, NoMerkle, OpenError,
     Parts, Raf, RafBuilder, RafCursor, RafIo, Reply, SessionEnd, Sha256Hasher, VecRng, session,
 };
+use raf_log::log_session;
 use std::alloc::Global;
 
 /// What is done with a storage.
@@ -21,6 +23,10 @@ pub enum Mode {
     Cursor,
     /// The file in it is served in one session.
     Session,
+    /// The file in it is opened as a log, and asked step by step.
+    Log,
+    /// The log in it is served in one session.
+    LogSession,
 }
 
 /// A hasher that knows how many hashes it was asked.
@@ -58,8 +64,8 @@ fn done(answer: Result<(), Error>) -> Reply {
     }
 }
 
-// So many bytes 0xee.
-fn room(alloc: Global, len: usize) -> Result<Vec<u8>, Fault> {
+/// So many bytes 0xee.
+pub fn room(alloc: Global, len: usize) -> Result<Vec<u8>, Fault> {
     let mut buf = Vec::new(alloc);
     buf.resize(len, 0xee)?;
     Ok(buf)
@@ -176,12 +182,12 @@ pub fn take<A: Algorithm, H: MerkleHasher>(
         },
         Step::Prove(index) => prove_one::<A, H>(alloc, file, *index, report),
         Step::ProveAll(chunk_size) => prove_all::<A, H>(alloc, file, *chunk_size, report),
-        Step::Glide(_) => Err(Fault::Line),
+        Step::Glide(_) | Step::Log(_) => Err(Fault::Line),
     }
 }
 
-// Tells how storage, random bytes and hasher are left, and keeps the storage.
-fn finish<H: Counted>(
+/// Tells how storage, random bytes and hasher are left, and keeps the storage.
+pub fn finish<H: Counted>(
     alloc: Global,
     bench: &mut Bench,
     parts: Parts<MemIo, VecRng, H>,
@@ -296,8 +302,8 @@ fn serve_cursor<A: Algorithm, H: Counted>(
     }
 }
 
-// The file, or what was handed in.
-type Start<A, H> = Result<File<A, H>, OpenError<MemIo, VecRng, H>>;
+/// The file, or what was handed in.
+pub type Start<A, H> = Result<File<A, H>, OpenError<MemIo, VecRng, H>>;
 
 fn start<A: Algorithm, H: Counted>(
     alloc: Global,
@@ -367,6 +373,15 @@ fn play<A: Algorithm, H: Counted>(
             let commands = commands_of(alloc, steps)?;
             let end = session::<A, MemIo, VecRng, H>(alloc, builder, io, key, &commands);
             serve_session::<A, H>(alloc, bench, end, report)
+        }
+        Mode::Log => {
+            let opened = builder.open::<MemIo>(alloc, io, key);
+            serve_log::<A, H>(alloc, bench, opened, &steps, report)
+        }
+        Mode::LogSession => {
+            let commands = log_commands_of(alloc, steps)?;
+            let end = log_session::<A, MemIo, VecRng, H>(alloc, builder, io, key, &commands);
+            end_log::<H>(alloc, bench, end, report)
         }
     }
 }

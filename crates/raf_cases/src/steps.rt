@@ -19,6 +19,19 @@ pub enum Move {
     LastError,
 }
 
+/// What is asked of a log.
+#[derive(Drop)]
+pub enum LogStep {
+    /// This entry at the end.
+    Append(Data),
+    /// The entry of this index.
+    Get(u64),
+    /// How many there are.
+    Count,
+    /// Room for so many more.
+    Reserve(usize),
+}
+
 /// A line below `create`, `open`, `cursor` or `session`.
 #[derive(Drop)]
 pub enum Step {
@@ -38,6 +51,8 @@ pub enum Step {
     ProveAll(usize),
     /// Something of a cursor.
     Glide(Move),
+    /// Something of a log.
+    Log(LogStep),
 }
 
 // A command.
@@ -94,6 +109,10 @@ pub fn step_of(alloc: Global, words: &[&str]) -> Result<Step, Fault> {
         }
         ["asked"] => Step::Asked,
         ["hash-len"] => Step::HashLen,
+        ["append", entry] => Step::Log(LogStep::Append(Data::from_vec(data(alloc, entry)?))),
+        ["get", index] => Step::Log(LogStep::Get(number(index)?)),
+        ["count"] => Step::Log(LogStep::Count),
+        ["reserve", count] => Step::Log(LogStep::Reserve(number(count)? as usize)),
         ["prove", index] => Step::Prove(number(index)?),
         ["prove-all", chunk_size] => Step::ProveAll(number(chunk_size)? as usize),
         ["seek", ..] | ["read", _] | ["write", _] | ["flush"] | ["last-error"] => {
