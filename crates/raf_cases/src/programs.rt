@@ -4,7 +4,8 @@ ghost use Rattle.std.specs.Prelude.{Some};
 use crate::report::Report;
 use crate::words::{Fault, data, number, numbers};
 use raf::MemIo;
-use raf_run::{Failed, Ran, Sink, Source, VecSink, VecSource, Words, run};
+use program_io::{Failed, Sink, Source, VecSink, VecSource};
+use raf_run::{Ran, Words, run};
 use std::alloc::{AllocError, Global};
 use std::mem;
 

@@ -1,5 +1,4 @@
 -- Lemmas of the program.
-pub mod StreamLemmas
 pub mod PutLemmas
 pub mod RunningLemmas
 pub mod AnswerLemmas

@@ -8,7 +8,7 @@ use Rattle.std.specs.Prelude.{slice_get}
 use Rattle.std.specs.List.{flat_map}
 use Rattle.std.proofs.Math.Seq.{take-append-add, take-add}
 use Rattle.hex.specs.Hex.{encode_with, encode_lower, lower_digits}
-use Rattle.raf_run.proofs.StreamLemmas.{appends_more, appends_none}
+use Rattle.program_io.proofs.StreamLemmas.{appends_more, appends_none}
 use Rattle.raf_run.specs.Text.{Puts}
 
 pub puts_none : {E : Type 0} (o : Option (List ℕ)) (x : ℕ) → Puts {E = E} o o x x (Ok tt) []

@@ -1,5 +1,3 @@
-pub mod Streams
-pub mod Memory
 pub mod Text
 pub mod Words
 pub mod Disk

@@ -11,7 +11,7 @@ use Rattle.raf_io.specs.declared.errors.ErrorKind.{ErrorKind}
 use Rattle.raf_io.specs.declared.errors.ErrorKind.TheVariants as kinds
 use Rattle.raf.specs.declared.command.Reply.{Reply}
 use Rattle.raf.specs.declared.command.Reply.TheVariants as replies
-use Rattle.raf_run.specs.Streams.{AppendsPrefix}
+use Rattle.program_io.specs.Streams.{AppendsPrefix}
 use Rattle.raf_script.specs.Script.{Spells, IsFirstWrong}
 use Rattle.raf_run.specs.Text.{line, outcome_text, end_text, report_text}
 use Rattle.raf_run.specs.Disk.{Disk}

@@ -13,7 +13,7 @@ use Rattle.raf_io.specs.declared.errors.Reason.{Reason}
 use Rattle.raf_io.specs.declared.errors.Reason.TheVariants as reasons
 use Rattle.raf.specs.declared.command.Reply.{Reply}
 use Rattle.raf.specs.declared.command.Reply.TheVariants as replies
-use Rattle.raf_run.specs.Streams.{AppendsPrefix, TellsAsBefore}
+use Rattle.program_io.specs.Streams.{AppendsPrefix, TellsAsBefore}
 use Rattle.raf_run.specs.declared.answer.End.{End}
 use Rattle.raf_run.specs.declared.answer.Report.{Report}
 

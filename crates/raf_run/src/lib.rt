@@ -3,19 +3,12 @@
 
 mod answer;
 mod demo;
-mod memory;
 mod output;
 mod program;
 mod running;
 mod seed;
-mod standard;
-mod streams;
 mod telling;
-mod whole;
 mod words;
 
-pub use memory::{VecSink, VecSource};
 pub use program::{Ran, run};
-pub use standard::{ReadSource, WriteSink};
-pub use streams::{Failed, Sink, Source};
 pub use words::{Form, Words};

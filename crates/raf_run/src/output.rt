@@ -8,10 +8,9 @@ ghost use Rattle.raf_run.specs.Text as spec;
 ghost use Rattle.raf_run.specs.Text.{Puts, line, hex_word, reply_line, refused_line, word, end_text, outcome_text, item_at, report_text};
 
 use crate::answer::{End, Report};
-use crate::streams::{Failed, Sink};
-use crate::whole::write_whole;
 use aegis::raf::{Data, Error, ErrorKind, Reason, Replies, Reply};
 use itoa::Buffer;
+use program_io::{Failed, Sink, write_whole};
 
 /// How many bytes become hex digits at once, on the stack.
 const PIECE: usize = 1024;

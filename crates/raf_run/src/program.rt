@@ -1,6 +1,6 @@
 //! The top call: words, a script and a disk in, replies and a status out.
 ghost use Rattle.std.specs.Prelude.{◌≡◌, ◌+◌, ◌≤◌, ◌^◌, Some, IfOk, IfErr};
-ghost use Rattle.raf_run.specs.Streams.{ConsumesAtMost};
+ghost use Rattle.program_io.specs.Streams.{ConsumesAtMost};
 ghost use Rattle.raf_run.specs.Words.{form_of};
 ghost use Rattle.raf_run.specs.Disk.{disk_of};
 ghost use Rattle.raf_run.specs.Laws.{OneEnd, OneText, Completes, CompletesInMemory, RunsShort};
@@ -9,11 +9,10 @@ ghost use Rattle.raf_run.specs.Run.{IsDue, Runs, HasRead, WhyUnread, IsDemo};
 use crate::answer::Answer;
 use crate::demo::run_demo;
 use crate::running::{Ended, run_in_memory, run_script};
-use crate::streams::{Failed, Sink, Source};
 use crate::telling::{put_answer, status};
-use crate::whole::{ReadError, read_whole};
 use crate::words::{Form, Words};
 use aegis::raf::RafIo;
+use program_io::{Failed, ReadError, Sink, Source, read_whole};
 use raf_script::{Medium, Script, ScriptError, parse};
 use std::alloc::Global;
 

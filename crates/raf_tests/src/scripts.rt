@@ -1,7 +1,8 @@
 //! Scripts over a real file of the host, and a reader and a writer of std that fail. The bytes of storages are those of an independent
 //! program.
 use aegis::raf::FileIo;
-use raf_run::{Failed, ReadSource, Sink, Source, VecSink, VecSource, Words, WriteSink, run};
+use program_io::{Failed, ReadSource, Sink, Source, VecSink, VecSource, WriteSink};
+use raf_run::{Words, run};
 use std::alloc::{AllocError, Global};
 use std::io::{Read, Write};
 use std::test::Fail;

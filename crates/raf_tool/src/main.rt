@@ -2,7 +2,8 @@
 #![tactic(auto)]
 
 use raf_os::FileIo;
-use raf_run::{ReadSource, Words, WriteSink, run};
+use program_io::{ReadSource, WriteSink};
+use raf_run::{Words, run};
 use std::alloc::AllocError;
 use std::fs::File;
 use std::process::ExitCode;

@@ -1,6 +1,6 @@
 use Rattle.std.proofs.Common.{length, take, ◌-◌, ◌≤◌, Ok}
 use Rattle.hex.specs.Hex.{encode_lower}
-use Rattle.raf_run.specs.declared.streams.Failed.{Failed}
+use Rattle.program_io.specs.declared.streams.Failed.{Failed}
 use Rattle.raf_run.specs.Text.{Puts}
 use Rattle.raf_run.proofs.output.put_digits.Given as goal
 

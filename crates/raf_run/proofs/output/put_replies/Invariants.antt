@@ -1,6 +1,6 @@
 use Rattle.std.proofs.Common.{take, Ok}
 use Rattle.std.specs.List.{flat_map}
-use Rattle.raf_run.specs.declared.streams.Failed.{Failed}
+use Rattle.program_io.specs.declared.streams.Failed.{Failed}
 use Rattle.raf_run.specs.Text.{Puts, reply_line}
 use Rattle.raf_run.proofs.output.put_replies.Given as goal
 

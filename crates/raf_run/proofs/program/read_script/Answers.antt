@@ -1,7 +1,7 @@
 use Rattle.std.proofs.Common.{rules, ◌≤◌, ◌^◌, length}
 use Rattle.raf_run.specs.Run.{IsWrong, IsScript}
 use Rattle.raf_run.proofs.AnswerLemmas.{wrong_of}
-use Rattle.raf_run.proofs.StreamLemmas.{all_consumed}
+use Rattle.program_io.proofs.StreamLemmas.{all_consumed}
 use Rattle.raf_run.proofs.program.read_script.Goals as goal
 
 pub returns-in-Ok-parse-clause-script : goal.returns-in-Ok-parse-clause-script

@@ -1,7 +1,7 @@
 use Rattle.std.proofs.Common.{arith, take, ◌++◌, ℕ}
 use Rattle.std.proofs.lemmas.List.{length-append, length-take}
-use Rattle.raf_run.proofs.StreamLemmas.{consumes_more}
-use Rattle.raf_run.proofs.whole.read_whole.Goals as goal
+use Rattle.program_io.proofs.StreamLemmas.{consumes_more}
+use Rattle.program_io.proofs.whole.read_whole.Goals as goal
 
 pub returns-in_err-extend_from_slice-clause-most :
     goal.returns-in_err-extend_from_slice-clause-most

@@ -1,8 +1,8 @@
 use Rattle.std.proofs.Common.{arith, sym, ◌∙◌, ap, ◌≡◌, length, take, drop, min, ◌-◌}
 use Rattle.std.proofs.lemmas.List.{length-take-le}
-use Rattle.raf_run.proofs.StreamLemmas.{whole_drop, moved, at_end}
-use Rattle.raf_run.specs.Memory.{Memory}
-use Rattle.raf_run.proofs.memory.VecSourceSource.read.Goals as goal
+use Rattle.program_io.proofs.StreamLemmas.{whole_drop, moved, at_end}
+use Rattle.program_io.specs.Memory.{Memory}
+use Rattle.program_io.proofs.memory.VecSourceSource.read.Goals as goal
 
 pub returns-clause-bytes : goal.returns-clause-bytes
 returns-clause-bytes c =

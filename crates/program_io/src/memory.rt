@@ -3,8 +3,8 @@ ghost use Rattle.std.specs.Prelude.{◌≡◌, ◌≤◌, [], ℕ, List, Some, d
 ghost use Rattle.std.specs.Io.{ReadsAtMost, WritesAtMost};
 ghost use Rattle.std.specs.Io.KnownBytes.{ReadConsumes, WriteAppends};
 ghost use Rattle.counts.specs.Counts.{HasCause, raised};
-ghost use Rattle.raf_run.specs.Streams.{TellsAsBefore, TakesSome};
-ghost use Rattle.raf_run.specs.Memory.{Memory};
+ghost use Rattle.program_io.specs.Streams.{TellsAsBefore, TakesSome};
+ghost use Rattle.program_io.specs.Memory.{Memory};
 
 use crate::streams::{Failed, Sink, Source};
 use std::alloc::Global;

@@ -2,8 +2,8 @@
 ghost use Rattle.std.specs.Prelude.{◌≡◌, ◌≢◌, ◌+◌, ◌^◌, ◌<◌, ◌≤◌, length, IfOk, OnOk, IsErrOf, IfSome};
 ghost use Rattle.std.specs.Io.KnownBytes.{Appends, Consumes, IsAtEnd};
 ghost use Rattle.counts.specs.Counts.{HasCause, Rose};
-ghost use Rattle.raf_run.specs.Streams.{AppendsPrefix, ConsumesAtMost, TellsAsBefore};
-ghost use Rattle.raf_run.specs.declared.whole.ReadError.TheVariants.{OutOfMemory};
+ghost use Rattle.program_io.specs.Streams.{AppendsPrefix, ConsumesAtMost, TellsAsBefore};
+ghost use Rattle.program_io.specs.declared.whole.ReadError.TheVariants.{OutOfMemory};
 
 use crate::streams::{Failed, Sink, Source};
 use std::alloc::{AllocError, Global};

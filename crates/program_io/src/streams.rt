@@ -4,7 +4,7 @@ ghost use Rattle.std.specs.Io.{ReadsAtMost, WritesAtMost};
 ghost use Rattle.std.specs.Io.KnownBytes.{ReadConsumes, WriteAppends};
 ghost use Rattle.std.specs.declared.option.Option.{Option};
 ghost use Rattle.counts.specs.Counts.{HasCause};
-ghost use Rattle.raf_run.specs.Streams.{TellsAsBefore, TakesSome};
+ghost use Rattle.program_io.specs.Streams.{TellsAsBefore, TakesSome};
 
 /// A call that the source or the sink didn't carry out.
 #[derive(Clone, Copy, Debug, PartialEq, Eq)]

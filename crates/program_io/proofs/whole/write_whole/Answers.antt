@@ -1,8 +1,8 @@
 use Rattle.std.proofs.Common.{arith, take, drop, ◌∙◌}
 use Rattle.std.proofs.Math.Seq.{take-add}
 use Rattle.std.proofs.lemmas.List.{length-drop}
-use Rattle.raf_run.proofs.StreamLemmas.{appends_more, whole_drop}
-use Rattle.raf_run.proofs.whole.write_whole.Goals as goal
+use Rattle.program_io.proofs.StreamLemmas.{appends_more, whole_drop}
+use Rattle.program_io.proofs.whole.write_whole.Goals as goal
 
 pub loop-at-preserved : goal.loop-at-preserved
 loop-at-preserved g c =

@@ -1,7 +1,7 @@
 use Rattle.std.proofs.Common.{length, take, ◌-◌, ◌≡◌, ◌≤◌}
 use Rattle.std.specs.Io.KnownBytes.{Appends}
-use Rattle.raf_run.specs.Streams.{TellsAsBefore}
-use Rattle.raf_run.proofs.whole.write_whole.Given as goal
+use Rattle.program_io.specs.Streams.{TellsAsBefore}
+use Rattle.program_io.proofs.whole.write_whole.Given as goal
 
 abbrev pub invariant-loop-at : goal.invariant-loop-at
 invariant-loop-at g l = (l.at ≤ length l.text)

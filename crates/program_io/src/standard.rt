@@ -3,7 +3,7 @@ ghost use Rattle.std.specs.Prelude.{◌≡◌, None, ℕ, OnErr};
 ghost use Rattle.std.specs.Io.{ReadsAtMost, WritesAtMost};
 ghost use Rattle.std.specs.Io.KnownBytes.{ReadConsumes, WriteAppends};
 ghost use Rattle.counts.specs.Counts.{HasCause, raised};
-ghost use Rattle.raf_run.specs.Streams.{TellsAsBefore, TakesSome};
+ghost use Rattle.program_io.specs.Streams.{TellsAsBefore, TakesSome};
 
 use crate::streams::{Failed, Sink, Source};
 use std::io::{Read, Write};

@@ -1,7 +1,7 @@
 use Rattle.std.proofs.Common.{length, ◌-◌, ◌+◌, ◌≡◌, ◌≤◌}
 use Rattle.std.specs.Io.KnownBytes.{Consumes}
-use Rattle.raf_run.specs.Streams.{TellsAsBefore}
-use Rattle.raf_run.proofs.whole.read_whole.Given as goal
+use Rattle.program_io.specs.Streams.{TellsAsBefore}
+use Rattle.program_io.proofs.whole.read_whole.Given as goal
 
 abbrev pub invariant-loop-piece : goal.invariant-loop-piece
 invariant-loop-piece g l = (length l.text.items ≤ l.limit + 1)

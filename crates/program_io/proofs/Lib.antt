@@ -1,0 +1,2 @@
+-- Lemmas of sources and sinks.
+pub mod StreamLemmas
