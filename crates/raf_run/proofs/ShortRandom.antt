@@ -23,7 +23,7 @@ use Rattle.raf_script.specs.declared.script.Start.{Start}
 use Rattle.raf_script.specs.declared.script.Start.TheVariants.{Storage, Create}
 use Rattle.raf_run.specs.Disk.{Disk, over, disk_in}
 use Rattle.raf_run.specs.Ends.{Ground, BuilderOf, Served, ServedAnew, RefusedAnew, EndsOn, ground_of, told_by}
-use Rattle.raf_run.specs.Run.{outcome_status, last_status, tells_io, is_io, is_io_kind}
+use Rattle.raf_run.specs.Answers.{outcome_status, last_status, tells_io, is_io, is_io_kind}
 use Rattle.raf_run.specs.Laws.{CanCreate, IsExcused, FaultsRng, RunsShortOn, RunsShortBy, RunsShort, new_header}
 use Rattle.raf_run.proofs.OneText.{taken_so_many, last_of, new_file}
 use Rattle.raf_run.proofs.Completeness.{all_quiet, quiet_at, asked_split, no_hash, not_made, refused_on, is_excuse}

@@ -23,7 +23,7 @@ use Rattle.raf_script.specs.declared.script.Script.{Script}
 use Rattle.raf_run.specs.Disk.{Disk}
 use Rattle.raf_run.specs.Ends.{Ground, Ends, EndsInMemory, ground_of, first_bytes}
 use Rattle.raf_run.specs.Text.{end_text}
-use Rattle.raf_run.specs.Run.{outcome_status, memory_status, tells_io}
+use Rattle.raf_run.specs.Answers.{outcome_status, memory_status, tells_io}
 use Rattle.raf_run.specs.declared.answer.End.{End}
 
 -- where the script tells its random bytes, two runs over disks that tell the same bytes, both with status 0, have the same replies and leave

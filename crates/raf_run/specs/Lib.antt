@@ -3,5 +3,6 @@ pub mod Words
 pub mod Disk
 pub mod Ends
 pub mod Demo
+pub mod Answers
 pub mod Run
 pub mod Laws

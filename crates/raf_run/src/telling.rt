@@ -1,13 +1,14 @@
 //! The text and the status of an answer.
 ghost use Rattle.std.specs.Prelude.{◌≡◌, ◌-◌, Some, length, slice_get};
+ghost use Rattle.program_io.specs.Streams.{output_of};
 ghost use Rattle.raf_run.specs.Text.{Puts};
-ghost use Rattle.raf_run.specs.Run as spec;
-ghost use Rattle.raf_run.specs.Run.{status_of, text_of, last_status};
+ghost use Rattle.raf_run.specs.Answers as spec;
+ghost use Rattle.raf_run.specs.Answers.{status_of, text_of, last_status, Told};
 
 use crate::answer::Answer;
 use crate::output::{put, put_end, put_number, put_outcome, put_report};
-use program_io::{Failed, Sink};
 use aegis::raf::{Error, ErrorKind, Replies, Reply};
+use program_io::{Failed, Sink};
 
 // The status after these replies, which the last one decides.
 fn replies_status(replies: &Replies) -> u8
@@ -72,8 +73,8 @@ fn memory_status(outcome: &Result<Replies, Error>) -> u8
     }
 }
 
-/// The status of an answer.
-pub fn status(answer: &Answer) -> u8
+// The status of an answer.
+fn status(answer: &Answer) -> u8
     ensures { result ≡ status_of answer.now }
 {
     match answer {
@@ -88,8 +89,8 @@ pub fn status(answer: &Answer) -> u8
     }
 }
 
-/// Writes the text of an answer. It takes no memory.
-pub fn put_answer<K: Sink>(sink: &mut K, answer: &Answer) -> Result<(), Failed>
+// Writes the text of an answer.
+fn put_answer<K: Sink>(sink: &mut K, answer: &Answer) -> Result<(), Failed>
     ensures { Puts (K.written sink.old) (K.written sink.new) (K.faults sink.old) (K.faults sink.new) result (text_of answer.now) }
 {
     match answer {
@@ -114,5 +115,15 @@ pub fn put_answer<K: Sink>(sink: &mut K, answer: &Answer) -> Result<(), Failed>
             }
         }
         Answer::Shown(report) => put_report(sink, report),
+    }
+}
+
+/// Writes the text of an answer, and gives the status: the answer's own, or 6 where the sink failed. It takes no memory.
+pub fn tell<K: Sink>(sink: &mut K, answer: &Answer) -> u8
+    ensures { Told answer.now (output_of K.written K.faults sink.old sink.new) result }
+{
+    match put_answer(sink, answer) {
+        Ok(()) => status(answer),
+        Err(Failed) => 6,
     }
 }
