@@ -3,6 +3,7 @@ pub mod Words
 pub mod Disk
 pub mod Ends
 pub mod Demo
+pub mod Conversions
 pub mod Answers
 pub mod Run
 pub mod Laws

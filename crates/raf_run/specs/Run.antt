@@ -6,9 +6,12 @@ use Rattle.raf.specs.declared.command.Reply.{Reply}
 use Rattle.raf_script.specs.Script.{Reads}
 use Rattle.raf_script.specs.declared.script.Medium.TheVariants as medium
 use Rattle.raf_script.specs.declared.script.Script.{Script}
+use Rattle.raf_script.specs.Conversion.{ReadsConversion}
+use Rattle.raf_script.specs.declared.conversion.Conversion.{Conversion}
 use Rattle.raf_run.specs.Answers.{Answers, IsUnread, HasRead, WhyUnread}
 use Rattle.raf_run.specs.Disk.{Disk}
 use Rattle.raf_run.specs.Ends.{Ends, EndsInMemory}
+use Rattle.raf_run.specs.Conversions.{EndsConverted}
 use Rattle.raf_run.specs.Demo.{demo_report}
 use Rattle.raf_run.specs.declared.words.Form.{Form}
 use Rattle.raf_run.specs.declared.words.Form.TheVariants as forms
@@ -39,6 +42,11 @@ UsageDue i _ = ⊥
 abbrev pub ScriptDue : Intake → Answer → Type 0
 ScriptDue i (answers.Ended end) = (s : Script) × HasRead (Reads medium.Memory) i s × EndsInMemory s end
 ScriptDue i a = WhyUnread (Reads medium.Memory) i a
+
+-- `convert`: a conversion is read, and its old file moved into a new one in memory
+abbrev pub ConvertDue : Intake → Answer → Type 0
+ConvertDue i (answers.Ended end) = (c : Conversion) × HasRead ReadsConversion i c × EndsConverted c end
+ConvertDue i a = WhyUnread ReadsConversion i a
 
 -- `demo <n>`: the commands of the demo are run in memory. Want of memory is free
 abbrev pub CanShow : ℕ → Answer → Type 0
@@ -72,6 +80,7 @@ module _ {D : Type 0} (d : Disks D) (i : Intake) where
 abbrev pub RunsBy : {D : Type 0} → Option Form → Intake → Disks D → Output → ℕ → Type 0
 RunsBy None i d o status = Answers (UsageDue i) o status × IsKept d
 RunsBy (Some forms.Script) i d o status = Answers (ScriptDue i) o status × IsKept d
+RunsBy (Some forms.Convert) i d o status = Answers (ConvertDue i) o status × IsKept d
 RunsBy (Some (forms.Demo n)) i d o status = Answers (DemoDue n i) o status × IsKept d
 RunsBy (Some forms.File) i d o status = Answers (FileDue d i) o status
 

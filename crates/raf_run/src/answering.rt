@@ -4,16 +4,18 @@ ghost use Rattle.aegis_core.specs.Sealing.{key_len};
 ghost use Rattle.program_io.specs.Streams.{ConsumesAtMost, intake_of};
 ghost use Rattle.raf_format.specs.Numbers.{variant_of};
 ghost use Rattle.raf_script.specs.Script.{Reads};
+ghost use Rattle.raf_script.specs.Conversion.{ReadsConversion};
 ghost use Rattle.raf_run.specs.Answers.{WasRead, WhyNoText, HasRead, WhyUnread, answer_of};
 ghost use Rattle.raf_run.specs.Disk.{disk_of};
-ghost use Rattle.raf_run.specs.Run.{ScriptDue, FileDue, CanShow, disks_of};
+ghost use Rattle.raf_run.specs.Run.{ScriptDue, ConvertDue, FileDue, CanShow, disks_of};
 
 use crate::answer::Answer;
+use crate::converting::run_conversion;
 use crate::demo::run_demo;
 use crate::running::{Ended, run_in_memory, run_script};
 use aegis::raf::RafIo;
 use program_io::{ReadError, Source, read_whole};
-use raf_script::{Medium, Script, ScriptError, parse};
+use raf_script::{Conversion, Medium, Script, ScriptError, parse, parse_conversion};
 use std::alloc::Global;
 
 /// A text has at most this many bytes.
@@ -65,6 +67,32 @@ pub fn answer_script<S: Source>(alloc: Global, source: &mut S) -> Answer
 {
     match read_script(alloc, source, Medium::Memory) {
         Ok(script) => Answer::Ended(run_in_memory(alloc, script)),
+        Err(answer) => answer,
+    }
+}
+
+// The conversion that a source holds, or the answer where it holds none.
+fn read_conversion<S: Source>(alloc: Global, source: &mut S) -> Result<Conversion, Answer>
+    ensures old_key { IfOk result (λ c. length c.old_key ≡ key_len (variant_of c.old_algorithm)) }
+    ensures key { IfOk result (λ c. length c.key ≡ key_len (variant_of c.algorithm)) }
+    ensures conversion { IfOk result (HasRead ReadsConversion (intake_of S.left S.faults source.old source.new)) }
+    ensures answer { IfErr result (WhyUnread ReadsConversion (intake_of S.left S.faults source.old source.new)) }
+    ensures most { ConsumesAtMost (S.left source.old) (S.left source.new) (2 ^ 26 + 1) }
+{
+    let text = read_text(alloc, source)?;
+    match parse_conversion(alloc, &text) {
+        Ok(conversion) => Ok(conversion),
+        Err(error) => Err(unread(error)),
+    }
+}
+
+/// The answer of the word `convert`: the old file that the source holds is moved into a new one, in memory.
+pub fn answer_conversion<S: Source>(alloc: Global, source: &mut S) -> Answer
+    ensures due { ConvertDue (intake_of S.left S.faults source.old source.new) result }
+    ensures most { ConsumesAtMost (S.left source.old) (S.left source.new) (2 ^ 26 + 1) }
+{
+    match read_conversion(alloc, source) {
+        Ok(conversion) => Answer::Ended(run_conversion(alloc, conversion)),
         Err(answer) => answer,
     }
 }

@@ -3,6 +3,7 @@
 
 mod answer;
 mod answering;
+mod converting;
 mod demo;
 mod output;
 mod program;

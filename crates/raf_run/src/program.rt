@@ -8,7 +8,7 @@ ghost use Rattle.raf_run.specs.Laws.{OneEnd, OneText, Completes, CompletesInMemo
 ghost use Rattle.raf_run.specs.Run.{RunsBy, disks_of, most_of};
 
 use crate::answer::Answer;
-use crate::answering::{Filed, answer_demo, answer_file, answer_script};
+use crate::answering::{Filed, answer_conversion, answer_demo, answer_file, answer_script};
 use crate::telling::tell;
 use crate::words::{Form, Words};
 use aegis::raf::RafIo;
@@ -50,6 +50,7 @@ fn run_form<S: Source, K: Sink, I: RafIo>(
     match form {
         None => end(sink, Answer::Usage, disk),
         Some(Form::Script) => end(sink, answer_script(alloc, source), disk),
+        Some(Form::Convert) => end(sink, answer_conversion(alloc, source), disk),
         Some(Form::Demo(writes)) => end(sink, answer_demo(alloc, writes), disk),
         Some(Form::File) => match disk {
             Some(io) => {

@@ -94,7 +94,10 @@ fn put_answer<K: Sink>(sink: &mut K, answer: &Answer) -> Result<(), Failed>
     ensures { Puts (K.written sink.old) (K.written sink.new) (K.faults sink.old) (K.faults sink.new) result (text_of answer.now) }
 {
     match answer {
-        Answer::Usage => put(sink, b"usage: raf_tool script | demo <n> | file <path>\n"),
+        Answer::Usage => put(
+            sink,
+            b"usage: raf_tool script | convert | demo <n> | file <path>\n",
+        ),
         Answer::NoDisk => put(sink, b"no disk\n"),
         Answer::ReadFault => put(sink, b""),
         Answer::Long => put(sink, b"script long\n"),

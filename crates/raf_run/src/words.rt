@@ -15,6 +15,8 @@ const MOST: u64 = 1000;
 pub enum Form {
     /// `script`: a script is read, and run in memory.
     Script,
+    /// `convert`: an old file is read, and moved into a new one in memory.
+    Convert,
     /// `demo <n>`: the commands of the demo with so many writes.
     Demo(u64),
     /// `file <path>`: a script is read, and run over a disk.
@@ -70,6 +72,7 @@ impl Words {
     {
         match self.words.as_slice() {
             [word] if word.as_str() == "script" => Some(Form::Script),
+            [word] if word.as_str() == "convert" => Some(Form::Convert),
             [word, argument] => pair_of(word.as_bytes(), argument.as_bytes()),
             _ => None,
         }
