@@ -6,4 +6,7 @@ pub mod OneText
 pub mod Completeness
 pub mod ShortRandom
 pub mod PlainFiles
+pub mod Pieces
+pub mod Openings
+pub mod Verdicts
 pub mod DemoLemmas

@@ -7,3 +7,4 @@ pub mod Conversions
 pub mod Answers
 pub mod Run
 pub mod Laws
+pub mod ConversionLaws

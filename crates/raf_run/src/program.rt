@@ -5,6 +5,7 @@ ghost use Rattle.raf_run.specs.Answers.{Told};
 ghost use Rattle.raf_run.specs.Words.{form_of};
 ghost use Rattle.raf_run.specs.Disk.{disk_of};
 ghost use Rattle.raf_run.specs.Laws.{OneEnd, OneText, Completes, CompletesInMemory, RunsShort};
+ghost use Rattle.raf_run.specs.ConversionLaws.{Converts, OneVerdict};
 ghost use Rattle.raf_run.specs.Run.{RunsBy, disks_of, most_of};
 
 use crate::answer::Answer;
@@ -97,6 +98,9 @@ pub fn run<S: Source, K: Sink, I: RafIo>(
     ensures completes_in_memory { CompletesInMemory }
     // The random source fails exactly where its told bytes run out.
     ensures runs_short { RunsShort }
+    // A conversion ends as the first cause says that refuses it, and else it is whole; or with status 7.
+    ensures converts { Converts }
+    ensures one_verdict { OneVerdict }
 {
     run_form::<S, K, I>(alloc, words.form(), source, sink, disk)
 }
