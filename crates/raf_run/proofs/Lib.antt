@@ -7,6 +7,8 @@ pub mod Completeness
 pub mod ShortRandom
 pub mod PlainFiles
 pub mod Pieces
+pub mod SamePieces
 pub mod Openings
 pub mod Verdicts
+pub mod OneConversion
 pub mod DemoLemmas

@@ -1,12 +1,13 @@
 -- How a conversion ends: its verdict, and what follows of it.
 use Rattle.std.proofs.Common.{◌≡◌, ℕ, suc, ◌+◌, ◌-◌, ◌*◌, ◌^◌, ◌<◌, ◌≤◌, min, Bool, true, false, ◌&&◌, List, [], ◌∷◌, length, take, drop, Option, Some, None, Result, Ok, Err, refl, sym, ap, ◌∙◌, arith, subst, inl, inr}
-use Rattle.std.specs.Prelude.{◌⊎◌, if◌then◌else◌, nat_lt, nat_le, not, slice_index, slice_get, IsErrAnd}
+use Rattle.std.specs.Prelude.{◌⊎◌, if◌then◌else◌, nat_lt, nat_le, not, ◌≢◌, slice_index, IsErrAnd}
 use Rattle.std.specs.List.{concat}
 use Rattle.std.proofs.lemmas.Bool.Decides.{nat_tests}
 use Rattle.std.proofs.lemmas.List.{length-append, length-drop}
 use Rattle.raf_format.specs.Cipher.{Cipher, IsLawful, cipher_of}
 use Rattle.raf_format.specs.Numbers.{variant_of}
 use Rattle.raf_format.specs.Version.{version_number}
+use Rattle.raf_format.specs.Header.{sealed_header}
 use Rattle.raf_format.specs.File.{File, Opens, Shape, shape_of, chunk_count, file_of}
 use Rattle.raf_format.specs.declared.header.Header.{Header}
 use Rattle.raf_format.proofs.Ciphers.{lawful}
@@ -22,7 +23,7 @@ use Rattle.raf.specs.Concern.{can_have, needed, none_missing}
 use Rattle.raf.specs.Converted.{Begins, HasBytes, ArePieces, writes, Filled, Moves, Unread, Unwritten, Stopped, Ends, Goes, Barred, Converted}
 use Rattle.raf.specs.Due.{is_fault}
 use Rattle.raf.specs.Handle.{Handle, Holds, limit_of, outline}
-use Rattle.raf.specs.Image.{asked_by, asked_in}
+use Rattle.raf.specs.Image.{asked_by, asked_in, traced}
 use Rattle.raf.specs.Meaning.{Faultable}
 use Rattle.raf.specs.Opening.{Settings, Opened, Made, IsChunkSize, WhyNotOpened, WhyNotMade}
 use Rattle.raf.specs.Outside.{Outside, Caused}
@@ -35,24 +36,26 @@ use Rattle.raf.specs.declared.converting.ConvertError.{ConvertError}
 use Rattle.raf.specs.declared.converting.Side.{Side}
 use Rattle.raf.specs.declared.converting.Side.TheVariants as side
 use Rattle.raf.proofs.Conversions.{held_short, held_some, held_count, total_le, can_have_less}
+use Rattle.raf.proofs.Between.{Short}
 use Rattle.raf.proofs.OnlyReads.{still_held}
 use Rattle.raf_script.specs.declared.conversion.Conversion.{Conversion}
 use Rattle.raf_run.specs.Disk.{memory_of, over}
 use Rattle.raf_run.specs.Ends.{Ground, BuilderOf, answers_of}
 use Rattle.raf_run.specs.Answers.{memory_status, refused_status, is_io_kind}
-use Rattle.raf_run.specs.Conversions.{EndsConverted, EndsUnopened, EndsUnmade, EndsMoved, EndsStarved, RefusedBy, Moved, OpenedIn, MadeIn, Maker, piece_len, old_ground, new_ground, outcome_of}
+use Rattle.raf_run.specs.Conversions.{EndsConverted, EndsUnopened, EndsUnmade, EndsMoved, EndsStarved, RefusedBy, Moved, NotOpenedIn, Maker, piece_len, old_ground, new_ground, outcome_of}
 use Rattle.raf_run.specs.ConversionLaws.{is_want, piece_refusal, asked_at, header_of, refusal, Unopened, Verdict, IsWhole, Follows, Converts, OneVerdict}
 use Rattle.raf_run.specs.declared.answer.End.{End}
 use Rattle.raf_run.proofs.OneText.{taken_so_many, new_file, NewFile, some_same}
+use Rattle.raf_run.proofs.SamePieces.{Readable, Stops}
 use Rattle.raf_run.proofs.Openings.{one_cause, no_cause, why_unmade, size_is, size_not}
 use Rattle.raf_run.proofs.Pieces.{AllThere, asked, moved_on, none_missing_read, count_step}
 
 -- ---- statuses
 
-abbrev kind_status : ErrorKind → ℕ
+abbrev pub kind_status : ErrorKind → ℕ
 kind_status kind = if is_io_kind kind then 7 else refused_status kind
 
-want_status : (kind : ErrorKind) → is_want kind ≡ true → kind_status kind ≡ 7
+pub want_status : (kind : ErrorKind) → is_want kind ≡ true → kind_status kind ≡ 7
 want_status Io is = refl
 want_status OutOfMemory is = refl
 want_status (InvalidArgument r) is = (cc)
@@ -80,7 +83,7 @@ cause_status Rng is = refl
 cause_status Hash is = refl
 cause_status Broken is = refl
 
-refused_told : (end : End) (kind : ErrorKind) → RefusedBy kind end → memory_status end.outcome ≡ kind_status kind
+pub refused_told : (end : End) (kind : ErrorKind) → RefusedBy kind end → memory_status end.outcome ≡ kind_status kind
 refused_told end kind (error, is, by) = ap memory_status is ∙ ap kind_status by
 
 abbrev EndsRight : Conversion → End → Type 0
@@ -96,13 +99,13 @@ refused_right c end kind by verdict = go (is_want kind) refl
 
 -- ---- the old file isn't opened
 
+pub why_unopened : (c : Conversion) (kind : ErrorKind) → NotOpenedIn (old_ground c) c.storage kind → WhyNotOpened (old_ground c).cipher (old_ground c).answers c.old_key None None c.storage kind
+why_unopened c kind (b, builder, (after, refused)) =
+    subst (λ (x : Option (List ℕ)). WhyNotOpened (old_ground c).cipher (old_ground c).answers c.old_key x None c.storage kind) builder.setting
+    (subst (λ (m : Option ℕ). WhyNotOpened (old_ground c).cipher (old_ground c).answers c.old_key b.outside.setting m c.storage kind) builder.most (refused.why c.storage refl))
+
 unopened_right : (c : Conversion) (end : End) → EndsUnopened c end → EndsRight c end
-unopened_right c end (kind, (b, builder, (after, refused)), by, empty) = refused_right c end kind by (λ cause. inl (kind, (cause, why), refl))
-  where
-    why : WhyNotOpened (old_ground c).cipher (old_ground c).answers c.old_key None None c.storage kind
-    why =
-        subst (λ (x : Option (List ℕ)). WhyNotOpened (old_ground c).cipher (old_ground c).answers c.old_key x None c.storage kind) builder.setting
-        (subst (λ (m : Option ℕ). WhyNotOpened (old_ground c).cipher (old_ground c).answers c.old_key b.outside.setting m c.storage kind) builder.most (refused.why c.storage refl))
+unopened_right c end (kind, refused, by, empty) = refused_right c end kind by (λ cause. inl (kind, (cause, why_unopened c kind refused), refl))
 
 -- ---- the new file isn't made
 
@@ -125,6 +128,19 @@ module _ (c : Conversion) (F : File) (opens : Opens (old_ground c).cipher c.old_
               inr (F, opens, ap (λ (k : ErrorKind). Some k) p.0 ∙ sym is)
 
 -- ---- the old file is moved
+
+-- what the new storage holds once these pieces were moved
+abbrev pub stored : Conversion → List (List ℕ) → List ℕ
+stored c pieces =
+    let G : File = outline (new_ground c).cipher (header_of c) in
+    traced None (new_ground c).cipher c.key G (writes 0 pieces) (take (asked_in None G (writes 0 pieces)) (drop 32 c.random)) (sealed_header (new_ground c).cipher c.key (header_of c))
+
+-- what a conversion of an old file leaves in the new storage, unless random bytes are wanting for a piece
+abbrev pub Leaves : Conversion → File → List ℕ → Type 0
+Leaves c F storage =
+    ((can_have None (outline (new_ground c).cipher (header_of c)) F.size ≡ false) × (storage ≡ sealed_header (new_ground c).cipher c.key (header_of c)))
+    ⊎ ((can_have None (outline (new_ground c).cipher (header_of c)) F.size ≡ true) × Short F.shape.chunk_size F.chunks
+    × ((pieces : List (List ℕ)) × ArePieces piece_len (F.size - 0) pieces × Readable F 0 pieces × Stops F (0 + length (concat pieces)) × (storage ≡ stored c pieces)))
 
 -- an open old file, and a new one
 module _ (c : Conversion) (from to : Handle) (old_builder : Settings) (old_is : BuilderOf (old_ground c) old_builder)
@@ -173,6 +189,9 @@ module _ (c : Conversion) (from to : Handle) (old_builder : Settings) (old_is : 
   shape_G : G.shape ≡ shape_of D (header_of c)
   shape_G = ap (λ (F : File). F.shape) holds_G.file ∙ ap (shape_of D) header
 
+  id_G : G.id ≡ take 32 c.random
+  id_G = ap (λ (F : File). F.id) holds_G.file ∙ ap (λ (h : Header). h.id) header
+
   size_G : G.size ≡ 0
   size_G = ap (λ (F : File). F.size) holds_G.file ∙ ap (λ (h : Header). h.file_size) header
 
@@ -185,6 +204,12 @@ module _ (c : Conversion) (from to : Handle) (old_builder : Settings) (old_is : 
 
   size_right : nat_le 16 c.chunk_size && nat_le c.chunk_size 1048576 ≡ true
   size_right = size_is c.chunk_size (subst IsChunkSize maker.chunk_size made.can.chunk_size)
+
+  header_bytes : to.outside.bytes ≡ Some (sealed_header D c.key (header_of c))
+  header_bytes = new.bytes
+
+  G_is : G ≡ outline D (header_of c)
+  G_is = λ i. record { shape = shape_G i; id = id_G i; size = size_G i; chunks = bare_G i }
 
   enough_id : nat_lt (length c.random) 32 ≡ false
   enough_id = let many : 32 ≤ length c.random = new.id in grind (arith, nat_tests)
@@ -211,7 +236,7 @@ module _ (c : Conversion) (from to : Handle) (old_builder : Settings) (old_is : 
     begins : Begins F (concat pieces)
     begins = moves.read F holds_F
 
-    short_F : (i : ℕ) (m : List ℕ) → slice_get F.chunks i ≡ Some (Some m) → length m ≤ F.shape.chunk_size
+    short_F : Short F.shape.chunk_size F.chunks
     short_F = held_short C law_C from F holds_F
 
     abbrev asks : ℕ
@@ -255,6 +280,26 @@ module _ (c : Conversion) (from to : Handle) (old_builder : Settings) (old_is : 
         whole : chunk_count piece_len F.size ≡ chunk_count piece_len (F.size - 0)
         whole = ap (chunk_count piece_len) (let e : F.size ≡ F.size - 0 = omega arith in e)
 
+    -- the new storage then
+    stored_there : there.outside.bytes ≡ Some (stored c pieces)
+    stored_there =
+        filled.tells
+        ∙ ap (λ (l : Option ℕ). Some (traced l D to.key G (writes 0 pieces) filled.nonces holds_G.bytes)) unlimited
+        ∙ ap (λ (k : List ℕ). Some (traced None D k G (writes 0 pieces) filled.nonces holds_G.bytes)) made.key_is
+        ∙ ap (λ (n : List ℕ). Some (traced None D c.key G (writes 0 pieces) n holds_G.bytes)) taken.0
+        ∙ ap (λ (b : List ℕ). Some (traced None D c.key G (writes 0 pieces) (take (asked_in None G (writes 0 pieces)) (drop 32 c.random)) b)) (some_same (sym holds_G.tells ∙ header_bytes))
+        ∙ ap (λ (G : File). Some (traced None D c.key G (writes 0 pieces) (take (asked_in None G (writes 0 pieces)) (drop 32 c.random)) (sealed_header D c.key (header_of c)))) G_is
+
+    leaves : (storage : List ℕ) → there.outside.bytes ≡ Some storage → Stops F (length (concat pieces)) → Leaves c F storage
+    leaves storage tells stop = inr (
+      can,
+      short_F,
+      (pieces, are, read, subst (Stops F) (let e : length (concat pieces) ≡ 0 + length (concat pieces) = omega arith in e) stop, some_same (sym tells ∙ stored_there)),
+    )
+      where
+        read : Readable F 0 pieces
+        read k lt = subst (λ (n : ℕ). IsByteOf F.shape.chunk_size F.chunks n (slice_index (concat pieces) k)) (let e : k ≡ 0 + k = omega arith in e) (begins k lt)
+
     -- a piece is next
     next : length (concat pieces) < F.size → chunk_count piece_len (F.size - length (concat pieces)) ≡ suc (chunk_count piece_len (F.size - length (concat pieces) - min piece_len (F.size - length (concat pieces))))
     next more = count_step (F.size - length (concat pieces)) (omega (arith, more))
@@ -292,7 +337,7 @@ module _ (c : Conversion) (from to : Handle) (old_builder : Settings) (old_is : 
       has_old = record { size = sym all; begins = begins };
       has_new = filled.has;
       shape = filled.shape ∙ shape_G;
-      id = filled.id ∙ ap (λ (F : File). F.id) holds_G.file ∙ ap (λ (h : Header). h.id) header;
+      id = filled.id ∙ id_G;
     }
       where
         held : Holds D there (file_after (limit_of to) G (writes 0 pieces))
@@ -321,23 +366,26 @@ module _ (c : Conversion) (from to : Handle) (old_builder : Settings) (old_is : 
       len_is : min piece_len (from.header.file_size - length (concat pieces)) ≡ min piece_len (F.size - length (concat pieces))
       len_is = ap (λ (n : ℕ). min piece_len (n - length (concat pieces))) (sym size_F)
 
+      unread_at : (kind : ErrorKind) → Unread C (answers_of None) here from' (length (concat pieces)) (min piece_len (from.header.file_size - length (concat pieces))) kind → kind ≡ AuthenticationFailed
+          → none_missing (needed F (command.Read (length (concat pieces)) (min piece_len (F.size - length (concat pieces))))) 0 F.chunks ≡ false
+      unread_at kind un is =
+          ap (λ (n : ℕ). none_missing (needed F (command.Read (length (concat pieces)) n)) 0 F.chunks) (sym len_is)
+          ∙ un.missing F (still_held C from here moves.only_read F holds_F) is
+
       at_read : (kind : ErrorKind) → RefusedBy kind end
           → Unread C (answers_of None) here from' (length (concat pieces)) (min piece_len (from.header.file_size - length (concat pieces))) kind → EndsRight c end
       at_read kind by un = go un.cause
         where
           go : ((kind ≡ Io) × Caused Io here.outside from'.outside) ⊎ (kind ≡ AuthenticationFailed) → EndsRight c end
           go (inl io) = inl (refused_told end kind by ∙ ap kind_status io.0)
-          go (inr is) = by_cause kind by (λ cause. unread more_F missing ∙ ap (λ (k : ErrorKind). Some k) (sym is))
-            where
-              missing : none_missing (needed F (command.Read (length (concat pieces)) (min piece_len (F.size - length (concat pieces))))) 0 F.chunks ≡ false
-              missing =
-                  ap (λ (n : ℕ). none_missing (needed F (command.Read (length (concat pieces)) n)) 0 F.chunks) (sym len_is)
-                  ∙ un.missing F (still_held C from here moves.only_read F holds_F) is
+          go (inr is) = by_cause kind by (λ cause. unread more_F (unread_at kind un is) ∙ ap (λ (k : ErrorKind). Some k) (sym is))
 
-      at_write : (kind : ErrorKind) (piece : List ℕ) → RefusedBy kind end → length piece ≡ min piece_len (from.header.file_size - length (concat pieces))
-          → Unwritten C D (answers_of None) (answers_of None) from here from' to there to' (length (concat pieces)) piece kind → EndsRight c end
-      at_write kind [] by len un = absurd (omega (arith, len, more))
-      at_write kind (x ∷ xs) by len un = go kind refl fault
+      -- the storage or the random source failed, and the latter where it has too few bytes
+      at_write : (kind : ErrorKind) (piece : List ℕ) → length piece ≡ min piece_len (from.header.file_size - length (concat pieces))
+          → Unwritten C D (answers_of None) (answers_of None) from here from' to there to' (length (concat pieces)) piece kind
+          → (kind ≡ Io) ⊎ ((kind ≡ Rng) × (refusal c F ≡ Some kind))
+      at_write kind [] len un = absurd (omega (arith, len, more))
+      at_write kind (x ∷ xs) len un = go kind refl fault
         where
           fault : is_fault (Refused kind) ≡ true
           fault = un.told G holds_G
@@ -409,9 +457,9 @@ module _ (c : Conversion) (from to : Handle) (old_builder : Settings) (old_is : 
                       subst (λ (n : ℕ). length (drop (asked_in None G (writes 0 pieces)) (drop 32 c.random)) < n) is_asked
                       (subst (λ (l : Option (List ℕ)). IsShort l (asked_by None (outline D (with_size (header_of c) (length (concat pieces)))) (command.Write (length (concat pieces)) (x ∷ xs)))) taken.1 fewer)
 
-          go : (k : ErrorKind) → kind ≡ k → is_fault (Refused k) ≡ true → EndsRight c end
-          go Io is f = inl (refused_told end kind by ∙ ap kind_status is)
-          go Rng is f = by_cause kind by (λ cause. rng is)
+          go : (k : ErrorKind) → kind ≡ k → is_fault (Refused k) ≡ true → (kind ≡ Io) ⊎ ((kind ≡ Rng) × (refusal c F ≡ Some kind))
+          go Io is f = inl is
+          go Rng is f = inr (is, rng is)
           go Hash is f = absurd (hash is)
           go (InvalidArgument r) is f = (cc)
           go AuthenticationFailed is f = (cc)
@@ -436,7 +484,11 @@ module _ (c : Conversion) (from to : Handle) (old_builder : Settings) (old_is : 
       stopped : (s : Side) (kind : ErrorKind) → RefusedBy kind end → length (concat pieces) < from.header.file_size
           → Stopped C D (answers_of None) (answers_of None) piece_len from from' to to' here there pieces s kind → EndsRight c end
       stopped side.From kind by more (un, same) = at_read can here there pieces moves end from' to' more kind by un
-      stopped side.To kind by more (piece, len, un, quiet) = at_write can here there pieces moves end from' to' more kind piece by len un
+      stopped side.To kind by more (piece, len, un, quiet) = go (at_write can here there pieces moves end from' to' more kind piece len un)
+        where
+          go : (kind ≡ Io) ⊎ ((kind ≡ Rng) × (refusal c F ≡ Some kind)) → EndsRight c end
+          go (inl io) = inl (refused_told end kind by ∙ ap kind_status io)
+          go (inr rng) = refused_right c end kind by (λ cause. inr (F, opens_F, sym rng.1))
 
       ended : (result : Result (Unit {0}) ConvertError) → end.outcome ≡ outcome_of result → to'.outside.bytes ≡ Some end.storage
           → Ends C D (answers_of None) (answers_of None) piece_len from from' to to' here there pieces result → EndsRight c end
@@ -457,6 +509,49 @@ module _ (c : Conversion) (from to : Handle) (old_builder : Settings) (old_is : 
       go true is =
           let goes = m.converted.goes opened.unmarked made.unmarked (can_is true is) in
           ended end m.from' m.to' is goes.here goes.there goes.pieces goes.moves m.result m.outcome m.storage goes.ends
+
+  -- ---- what it left
+
+  module _ (end : End) (from' to' : Handle) (other : memory_status end.outcome ≢ 7) (many : RefusedBy Rng end → ⊥) (tells : to'.outside.bytes ≡ Some end.storage) where
+    left_bare : can_have None (outline D (header_of c)) F.size ≡ false → to' ≡ to → Leaves c F end.storage
+    left_bare is same = inl (is, some_same (sym tells ∙ ap (λ (h : Handle). h.outside.bytes) same ∙ header_bytes))
+
+    module _ (can : can_have None (outline D (header_of c)) F.size ≡ true) (here there : Handle) (pieces : List (List ℕ))
+        (moves : Moves C D (answers_of None) piece_len from here to there pieces) where
+      left_there : to' ≡ there → Stops F (length (concat pieces)) → Leaves c F end.storage
+      left_there same stop = leaves can here there pieces moves end.storage (ap (λ (h : Handle). h.outside.bytes) (sym same) ∙ tells) stop
+
+      left_by : (s : Side) (kind : ErrorKind) → RefusedBy kind end → length (concat pieces) < from.header.file_size
+          → Stopped C D (answers_of None) (answers_of None) piece_len from from' to to' here there pieces s kind → Leaves c F end.storage
+      left_by side.From kind by more (un, same) = go un.cause
+        where
+          go : ((kind ≡ Io) × Caused Io here.outside from'.outside) ⊎ (kind ≡ AuthenticationFailed) → Leaves c F end.storage
+          go (inl io) = absurd (other (refused_told end kind by ∙ ap kind_status io.0))
+          go (inr is) = left_there same (inr (unread_at can here there pieces moves end from' to' more kind un is))
+      left_by side.To kind by more (piece, len, un, quiet) = go (at_write can here there pieces moves end from' to' more kind piece len un)
+        where
+          go : (kind ≡ Io) ⊎ ((kind ≡ Rng) × (refusal c F ≡ Some kind)) → Leaves c F end.storage
+          go (inl io) = absurd (other (refused_told end kind by ∙ ap kind_status io))
+          go (inr rng) = absurd (many (by.0, by.1, by.2 ∙ rng.0))
+
+      left_so : (result : Result (Unit {0}) ConvertError) → end.outcome ≡ outcome_of result
+          → Ends C D (answers_of None) (answers_of None) piece_len from from' to to' here there pieces result → Leaves c F end.storage
+      left_so (Ok u) out (all, read, wrote) = left_there wrote (inl (all ∙ sym size_F))
+      left_so (Err e) out (more, why) = left_by e.side (kind_of e.error) (e.error, out, refl) more why
+
+  pub moved_leaves : (end : End) → Moved (cipher_of (variant_of c.old_algorithm)) (cipher_of (variant_of c.algorithm)) from to end
+      → memory_status end.outcome ≢ 7 → (RefusedBy Rng end → ⊥) → Leaves c F end.storage
+  moved_leaves end m other many = go (can_have None (outline D (header_of c)) F.size) refl
+    where
+      go : (t : Bool) → can_have None (outline D (header_of c)) F.size ≡ t → Leaves c F end.storage
+      go false is = left_bare end m.from' m.to' other many m.storage is (m.converted.too_long opened.unmarked made.unmarked (can_is false is)).2
+      go true is =
+          let goes = m.converted.goes opened.unmarked made.unmarked (can_is true is) in
+          left_so end m.from' m.to' other many m.storage is goes.here goes.there goes.pieces goes.moves m.result m.outcome goes.ends
+
+  -- a new file was made
+  pub made_of : IsChunkSize c.chunk_size × (32 ≤ length c.random)
+  made_of = (subst IsChunkSize maker.chunk_size made.can.chunk_size, new.id)
 
 pub converts : Converts
 converts c end (inl unopened) = unopened_right c end unopened

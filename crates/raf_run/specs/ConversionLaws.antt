@@ -1,5 +1,5 @@
 -- What holds of conversions: the first cause that refuses one, and what it leaves where there is none (this project's own).
-use Rattle.std.specs.Prelude.{◌≡◌, ◌⊎◌, [], ℕ, zero, suc, ◌+◌, ◌-◌, ◌*◌, min, Bool, true, false, not, ◌&&◌, if◌then◌else◌, nat_lt, nat_le, List, length, take, Option, Some, None, Ok, ⊤}
+use Rattle.std.specs.Prelude.{◌≡◌, ◌⊎◌, ◌≢◌, ◌<◌, [], ℕ, zero, suc, ◌+◌, ◌-◌, ◌*◌, min, Bool, true, false, not, ◌&&◌, if◌then◌else◌, nat_lt, nat_le, List, length, take, Option, Some, None, Ok, ⊤}
 use Rattle.raf_format.specs.File.{File, Opens, shape_of, chunk_count, chunk_len}
 use Rattle.raf_format.specs.Version.{version_number}
 use Rattle.raf_format.specs.declared.header.Header.{Header}
@@ -13,6 +13,7 @@ use Rattle.raf.specs.Opening.{WhyNotOpened}
 use Rattle.raf.specs.declared.command.Command.TheVariants.{Read}
 use Rattle.raf_script.specs.declared.conversion.Conversion.{Conversion}
 use Rattle.raf_run.specs.Answers.{memory_status}
+use Rattle.raf_run.specs.Text.{end_text}
 use Rattle.raf_run.specs.Conversions.{EndsConverted, RefusedBy, piece_len, old_ground, new_ground}
 use Rattle.raf_run.specs.declared.answer.End.{End}
 
@@ -90,6 +91,15 @@ module _ (c : Conversion) where
 abbrev pub Converts : Type 0
 Converts = (c : Conversion) (end : End) → EndsConverted c end
     → (memory_status end.outcome ≡ 7) ⊎ ((v : Option ErrorKind) × Verdict c v × Follows c v end)
+
+-- random bytes weren't wanting for a piece
+abbrev pub HasEnough : Conversion → End → Type 0
+HasEnough c end = RefusedBy Rng end → length c.random < 32
+
+-- where none is, what is written is one function of the content, with status 3 too
+abbrev pub OneConversion : Type 0
+OneConversion = (c : Conversion) (e f : End) → EndsConverted c e → EndsConverted c f → memory_status e.outcome ≢ 7 → memory_status f.outcome ≢ 7
+    → HasEnough c e → HasEnough c f → (memory_status e.outcome ≡ memory_status f.outcome) × (end_text e ≡ end_text f)
 
 -- and there is one verdict alone
 abbrev pub OneVerdict : Type 0

@@ -5,7 +5,7 @@ ghost use Rattle.raf_run.specs.Answers.{Told};
 ghost use Rattle.raf_run.specs.Words.{form_of};
 ghost use Rattle.raf_run.specs.Disk.{disk_of};
 ghost use Rattle.raf_run.specs.Laws.{OneEnd, OneText, Completes, CompletesInMemory, RunsShort};
-ghost use Rattle.raf_run.specs.ConversionLaws.{Converts, OneVerdict};
+ghost use Rattle.raf_run.specs.ConversionLaws.{Converts, OneVerdict, OneConversion};
 ghost use Rattle.raf_run.specs.Run.{RunsBy, disks_of, most_of};
 
 use crate::answer::Answer;
@@ -101,6 +101,7 @@ pub fn run<S: Source, K: Sink, I: RafIo>(
     // A conversion ends as the first cause says that refuses it, and else it is whole; or with status 7.
     ensures converts { Converts }
     ensures one_verdict { OneVerdict }
+    ensures one_conversion { OneConversion }
 {
     run_form::<S, K, I>(alloc, words.form(), source, sink, disk)
 }

@@ -2,6 +2,7 @@ use Rattle.raf_run.proofs.OneText.{one_end, one_text}
 use Rattle.raf_run.proofs.Completeness.{completes, completes_in_memory}
 use Rattle.raf_run.proofs.ShortRandom.{runs_short}
 use Rattle.raf_run.proofs.Verdicts.{converts, one_verdict}
+use Rattle.raf_run.proofs.OneConversion.{one_conversion}
 use Rattle.raf_run.proofs.program.run.Goals as goal
 
 pub returns-clause-one_end : goal.returns-clause-one_end
@@ -24,3 +25,6 @@ returns-clause-converts g c = converts
 
 pub returns-clause-one_verdict : goal.returns-clause-one_verdict
 returns-clause-one_verdict g c = one_verdict
+
+pub returns-clause-one_conversion : goal.returns-clause-one_conversion
+returns-clause-one_conversion g c = one_conversion
