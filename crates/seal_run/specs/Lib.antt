@@ -2,3 +2,4 @@ pub mod Pieces
 pub mod Ends
 pub mod Sealing
 pub mod Unsealing
+pub mod Steps

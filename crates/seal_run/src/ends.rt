@@ -2,6 +2,9 @@
 ghost use Rattle.std.specs.Prelude.{◌≡◌};
 ghost use Rattle.seal_run.specs.Ends.{status_of};
 
+// The most bytes that a source may have.
+pub const MOST_BYTES: u64 = 1 << 40;
+
 /// How a run over a source and a sink ended.
 #[derive(Clone, Copy, Debug, PartialEq, Eq)]
 pub enum StreamEnd {

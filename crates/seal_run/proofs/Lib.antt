@@ -1,0 +1,2 @@
+-- Lemmas of sealing and opening a source.
+pub mod Grows
