@@ -1,8 +1,8 @@
 -- Texts that are written in parts, to sinks that may tell them.
-use Rattle.std.proofs.Common.{◌≡◌, ℕ, ◌+◌, ◌<◌, ◌≤◌, List, [], ◌++◌, length, take, drop, Option, Some, None, refl, sym, ap, ◌∙◌, subst, arith, append_assoc, append-nil, length-append, length-take, take-append-drop}
+use Rattle.std.proofs.Common.{◌≡◌, ℕ, ◌+◌, ◌<◌, ◌≤◌, true, false, List, [], ◌++◌, length, take, drop, Option, Some, None, refl, sym, ap, ◌∙◌, subst, arith, append_assoc, append-nil, length-append, length-take, take-append-drop}
 use Rattle.std.proofs.lemmas.List.{take_at, length-take-le}
 use Rattle.std.proofs.Math.Seq.{take-append-add}
-use Rattle.std.specs.Prelude.{IfSome}
+use Rattle.std.specs.Prelude.{IfSome, Result, Ok, Err, OnOk, OnErr, is_err}
 use Rattle.std.specs.Io.KnownBytes.{Appends, Consumes}
 use Rattle.program_io.specs.Streams.{AppendsPrefix, ConsumesAtMost}
 use Rattle.program_io.proofs.StreamLemmas.{appends_more, consumes_more}
@@ -53,3 +53,18 @@ front_more old mid new whole text more b a p =
 pub taken_more : (old mid new : Option (List ℕ)) (bytes : List ℕ) (n most : ℕ) → Consumes old mid bytes → ConsumesAtMost mid new n → length bytes + n ≤ most → ConsumesAtMost old new most
 taken_more old mid new bytes n most c more le =
     (bytes ++ more.0, omega (arith, length-append bytes more.0, more.1, le), consumes_more old mid new bytes more.0 c more.2)
+
+-- what a call says of its error, where there is one, and else of its answer
+pub of_err : {T E : Type 0} {P : Type 0} (r : Result T E) → true ≡ is_err r → OnErr r P → P
+of_err (Ok x) is h = absurd (apart is)
+  where
+    apart : true ≡ false → ⊥
+    apart e = cc
+of_err (Err e) is h = h
+
+pub of_ok : {T E : Type 0} {P : Type 0} (r : Result T E) → false ≡ is_err r → OnOk r P → P
+of_ok (Ok x) is h = h
+of_ok (Err e) is h = absurd (apart is)
+  where
+    apart : false ≡ true → ⊥
+    apart e = cc

@@ -1,5 +1,6 @@
 -- How far a source is sealed.
-use Rattle.std.proofs.Common.{◌≡◌, ℕ, zero, suc, ◌+◌, ◌*◌, ◌^◌, ◌<◌, ◌≤◌, Bool, true, false, List, [], ◌∷◌, ◌++◌, length, take, drop, Option, Some, None, refl, sym, ap, ◌∙◌, subst, arith, append_assoc, append-nil, length-append, take-append-drop, Result}
+use Rattle.std.proofs.Common.{◌≡◌, ℕ, zero, suc, ◌+◌, ◌*◌, ◌^◌, ◌<◌, ◌≤◌, Bool, true, false, ltb, inl, inr, List, [], ◌∷◌, ◌++◌, length, take, drop, Option, Some, None, refl, sym, ap, ◌∙◌, subst, arith, append_assoc, append-nil, length-append, take-append-drop, Result}
+use Rattle.std.proofs.lemmas.Bool.{cases_lt, lt-ltb, le-ltb}
 use Rattle.std.specs.Prelude.{IfSome, OnOk}
 use Rattle.std.specs.Io.KnownBytes.{Appends, Consumes, IsAtEnd}
 use Rattle.program_io.specs.Streams.{Output, AppendsPrefix}
@@ -48,6 +49,17 @@ so_far_none key prefix s left written after is spells a = record {
   appended = a;
 }
 
+-- how the next message is cut: the rest, or a whole piece
+abbrev pub IsCut : Option (List ℕ) → List ℕ → Bool → Type 0
+IsCut next p true = (length p < 65536) × IsAtEnd next
+IsCut next p false = length p ≡ 65536
+
+pub is_cut : (next : Option (List ℕ)) (p : List ℕ) (count : ℕ) → length p ≡ count → count ≤ 65536 → (count < 65536 → IsAtEnd next) → IsCut next p (ltb count 65536)
+is_cut next p count len most end = elim (cases_lt count 65536) [
+  | inl less ↦ subst (IsCut next p) (sym (lt-ltb count 65536 less)) (omega arith, end less)
+  | inr more ↦ subst (IsCut next p) (sym (le-ltb count 65536 more)) (omega arith)
+]
+
 module _ (key prefix : List ℕ) (laws : IsStream) where
   -- a stream that goes on with these messages
   goes : (messages others : List (List ℕ)) → 0 < length others → Begins (spell key prefix (messages ++ others)) (spelled key prefix false messages)
@@ -84,11 +96,6 @@ module _ (key prefix : List ℕ) (laws : IsStream) where
     too_many next p c more = known left next (f.bytes ++ p) (λ b. most_bytes < length b) (consumes_more left now next f.bytes p f.consumed c)
         (λ rest _. omega (arith, length-append (f.bytes ++ p) rest, length-append f.bytes p, f.long, more))
 
-    -- how the next message is cut: a whole piece, or the rest
-    abbrev pub IsCut : Option (List ℕ) → List ℕ → Bool → Type 0
-    IsCut next p true = (length p < 65536) × IsAtEnd next
-    IsCut next p false = length p ≡ 65536
-
     cut_begins : (next : Option (List ℕ)) (p : List ℕ) (last : Bool) → IsCut next p last → (rest text : List ℕ) → next ≡ Some rest
         → text ≡ spelled key prefix last (f.messages ++ p ∷ []) → Begins (stream_of key prefix ((f.bytes ++ p) ++ rest)) text
     cut_begins next p false cut rest text is t =
@@ -118,7 +125,7 @@ module _ (key prefix : List ℕ) (laws : IsStream) where
     texts = spelled_by t (f.messages ++ p ∷ []) (f.text ++ put.text) last (put.key ∙ f.key_is) (put.prefix ∙ f.prefix_is) put.ended (put.stream f.messages f.text f.spells)
 
     -- a front of its frame was written
-    pub put_front : IsCut s left now written sink.written sealed f next p last → IfSome left (λ b. AppendsPrefix written sink.after (stream_of key prefix b))
+    pub put_front : IsCut next p last → IfSome left (λ b. AppendsPrefix written sink.after (stream_of key prefix b))
     put_front cut = known left next (f.bytes ++ p) (λ b. AppendsPrefix written sink.after (stream_of key prefix b)) (consumes_more left now next f.bytes p f.consumed c)
         (λ rest is. front_more written sink.written sink.after (stream_of key prefix ((f.bytes ++ p) ++ rest)) f.text put.text
         (cut_begins s left now written sink.written sealed f next p last cut rest (f.text ++ put.text) is texts) f.appended put.front)
