@@ -1,0 +1,5 @@
+-- Lemmas of sealing and opening a source.
+pub mod Grows
+pub mod Known
+pub mod Cuts
+pub mod Sealed
