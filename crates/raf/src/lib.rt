@@ -23,6 +23,7 @@ mod planning;
 mod preparing;
 mod probing;
 mod reading;
+mod repairing;
 mod serving;
 mod staging;
 mod storing;
@@ -46,4 +47,5 @@ pub use raf_format::{
 pub use raf_io::{Error, ErrorKind, MemIo, RafIo, RafRng, Reason, VecRng};
 pub use raf_os::{FileIo, OsRng};
 pub use raf_tree::{FakeHasher, HashFault, MerkleHasher, NoMerkle, Place, Sha256Hasher};
+pub use repairing::repair;
 pub use serving::{SessionEnd, session};
