@@ -1,7 +1,8 @@
 //! What a user of the crate may rest on beside the calls.
-ghost use Rattle.std.specs.Prelude.{◌≡◌, length, OnOk};
+ghost use Rattle.std.specs.Prelude.{◌≡◌, ◌+◌, ◌^◌, ◌<◌, ◌≤◌, length, OnOk};
+ghost use Rattle.raf_io.specs.Storage.{spliced};
 ghost use Rattle.raf_format.specs.Cipher.{cipher_of};
-ghost use Rattle.raf_format.specs.File.{File};
+ghost use Rattle.raf_format.specs.File.{File, file_of};
 ghost use Rattle.raf.specs.Handle.{Holds, HoldsAgain};
 ghost use Rattle.raf.specs.Complete.{Complete};
 ghost use Rattle.raf.specs.Content.{Contents};
@@ -19,6 +20,25 @@ use std::io::SeekFrom;
 pub fn holds_again<A: Algorithm>()
     ensures { HoldsAgain (cipher_of A.variant) }
 {}
+
+/// Puts bytes behind the header, through `storage_mut`, in place of as many that the storage holds: the file is then what the storage holds.
+pub fn put_behind<A: Algorithm, I: RafIo, R: RafRng, H: MerkleHasher>(
+    file: &mut Raf<A, I, R, H>,
+    bytes: &[u8],
+    offset: u64,
+) -> Result<(), Error>
+    requires behind { 96 ≤ offset }
+    requires end { offset + length bytes.now < 2 ^ 64 }
+    ensures { (F : File) (held : Holds (cipher_of A.variant) file.old F) → offset + length bytes.now ≤ length held.bytes
+        → OnOk result (Holds (cipher_of A.variant) file.new
+        (file_of (cipher_of A.variant) file.old.key file.old.header (spliced offset bytes.now held.bytes))) }
+{
+    holds_again::<A>();
+    match file.storage_mut().write_at(bytes, offset) {
+        Ok(()) => Ok(()),
+        Err(fault) => Err(Error::Io(fault)),
+    }
+}
 
 /// Valid input and no fault: on an open file without the kept mark every valid command is answered, whatever memory there is; and a file
 /// is opened or made, and a session answered, but for want of memory.

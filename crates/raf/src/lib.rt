@@ -36,7 +36,7 @@ pub use converting::{ConvertError, Side, convert};
 pub use cursor::RafCursor;
 pub use data::Data;
 pub use file::{Raf, clash};
-pub use laws::{complete, contents, holds_again, write_then_read, write_through};
+pub use laws::{complete, contents, holds_again, put_behind, write_then_read, write_through};
 pub use outside::Parts;
 pub use paths::PathError;
 pub use probing::{derive_key, probe};
