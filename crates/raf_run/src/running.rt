@@ -3,7 +3,7 @@ ghost use Rattle.std.specs.Prelude.{◌≡◌, [], Some, None, true, false, leng
 ghost use Rattle.aegis_core.specs.Sealing.{key_len};
 ghost use Rattle.raf_format.specs.Cipher.{cipher_of};
 ghost use Rattle.raf_format.specs.Numbers.{variant_of};
-ghost use Rattle.raf_io.specs.Memory.{memory_bytes, durable_bytes, IsFresh};
+ghost use Rattle.raf_io.specs.Memory.{memory_bytes, durable_bytes, failing, IsFresh};
 ghost use Rattle.raf.specs.Handle.{Handle};
 ghost use Rattle.raf.specs.Opening.{Made};
 ghost use Rattle.raf_run.specs.Disk.{disk_of, disk_in, over};
@@ -208,6 +208,8 @@ fn take_memory(alloc: Global, start: &mut Start) -> MemIo
     ensures bytes { memory_bytes result ≡ first_bytes start.old }
     ensures durable { durable_bytes result ≡ [] }
     ensures fresh { IsFresh result }
+    // None of its calls is to fail.
+    ensures sound { failing result ≡ [] }
     ensures start { start.new ≡ without_bytes start.old }
 {
     let none = Data::from_vec(Vec::new(alloc));

@@ -1,6 +1,9 @@
 //! A random source that a seed decides.
 ghost use Rattle.std.specs.Prelude.{◌≡◌, List, ℕ, length, None, true, Bool, IfErr, OnOk, OnErr};
 ghost use Rattle.counts.specs.Counts.{raised, HasCause};
+ghost use Rattle.rand_core.specs.Steps.{stream_of, steps_u32};
+ghost use Rattle.rand_core.specs.Stream.{fill_bytes};
+ghost use Rattle.rand_chacha.specs.ChaCha.{next_word, of_seed};
 
 use aegis::raf::{Error, RafRng};
 use rand_chacha::ChaCha20Rng;
@@ -16,7 +19,8 @@ pub struct SeedRng {
 impl SeedRng {
     /// The generator of this seed, of which nothing was asked.
     pub fn new(seed: [u8; 32]) -> SeedRng
-        ensures { result.asked ≡ 0 }
+        ensures asked { result.asked ≡ 0 }
+        ensures generator { result.generator ≡ of_seed seed }
     {
         SeedRng {
             generator: ChaCha20Rng::from_seed(seed),
@@ -34,7 +38,10 @@ impl RafRng for SeedRng {
 
     ghost exact = { true };
 
-    fn fill(&mut self, buf: &mut [u8]) -> Result<(), Error> {
+    fn fill(&mut self, buf: &mut [u8]) -> Result<(), Error>
+        ensures given { (buf.new, stream_of (steps_u32 (next_word 10)) self.new.generator)
+            ≡ fill_bytes (length buf.new) (stream_of (steps_u32 (next_word 10)) self.old.generator) }
+    {
         self.asked = self.asked.saturating_add(buf.len() as u64);
         self.generator.fill_bytes(buf);
         Ok(())
