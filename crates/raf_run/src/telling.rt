@@ -6,8 +6,8 @@ ghost use Rattle.raf_run.specs.Run.{status_of, text_of, last_status};
 
 use crate::answer::Answer;
 use crate::output::{put, put_end, put_number, put_outcome, put_report};
-use program_io::{Failed, Sink};
 use aegis::raf::{Error, ErrorKind, Replies, Reply};
+use program_io::{Failed, Sink};
 
 // The status after these replies, which the last one decides.
 fn replies_status(replies: &Replies) -> u8
