@@ -1,6 +1,7 @@
 -- Lemmas of the program.
 pub mod PutLemmas
 pub mod RunningLemmas
+pub mod LoggingLemmas
 pub mod AnswerLemmas
 pub mod OneText
 pub mod Completeness

@@ -1,7 +1,9 @@
 pub mod Text
+pub mod LogText
 pub mod Words
 pub mod Disk
 pub mod Ends
+pub mod Logs
 pub mod Demo
 pub mod Conversions
 pub mod Answers

@@ -5,6 +5,8 @@ mod answer;
 mod answering;
 mod converting;
 mod demo;
+mod log_output;
+mod logging;
 mod output;
 mod program;
 mod running;
