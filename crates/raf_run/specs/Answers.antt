@@ -10,9 +10,17 @@ use Rattle.raf_io.specs.declared.errors.ErrorKind.TheVariants as kinds
 use Rattle.raf.specs.Due.{is_fault}
 use Rattle.raf.specs.declared.command.Reply.{Reply}
 use Rattle.raf.specs.declared.command.Reply.TheVariants as replies
+use Rattle.raf_log.specs.Call.{is_log_fault}
+use Rattle.raf_log.specs.Kinds.{log_kind}
+use Rattle.raf_log.specs.declared.command.LogReply.{LogReply}
+use Rattle.raf_log.specs.declared.command.LogReply.TheVariants as log_replies
+use Rattle.raf_log.specs.declared.error.LogError.{LogError}
+use Rattle.raf_log.specs.declared.error.LogErrorKind.{LogErrorKind}
+use Rattle.raf_log.specs.declared.error.LogErrorKind.TheVariants as log_kinds
 use Rattle.raf_script.specs.declared.script.ScriptError.{ScriptError}
 use Rattle.raf_script.specs.declared.script.ScriptError.TheVariants as errors
 use Rattle.raf_run.specs.Text.{line, outcome_text, end_text, report_text}
+use Rattle.raf_run.specs.LogText.{log_end_text}
 use Rattle.raf_run.specs.declared.answer.Answer.{Answer}
 use Rattle.raf_run.specs.declared.answer.Answer.TheVariants as answers
 
@@ -49,6 +57,24 @@ tells_io (Err e) = is_io_kind (kind_of e)
 abbrev pub memory_status : Result (List Reply) Error → ℕ
 memory_status outcome = if tells_io outcome then 7 else outcome_status outcome
 
+-- the same of a log's session in memory
+abbrev pub is_log_io : LogReply → Bool
+is_log_io (log_replies.Refused (log_kinds.Raf kind)) = is_io_kind kind
+is_log_io _ = false
+
+abbrev pub log_last_status : Option LogReply → ℕ
+log_last_status None = 0
+log_last_status (Some last) = if is_log_fault last then (if is_log_io last then 7 else 4) else 0
+
+abbrev pub log_refused_status : LogErrorKind → ℕ
+log_refused_status (log_kinds.Raf kind) = if is_io_kind kind then 7 else refused_status kind
+log_refused_status log_kinds.OutOfMemory = 7
+log_refused_status _ = 3
+
+abbrev pub log_status : Result (List LogReply) LogError → ℕ
+log_status (Ok rs) = log_last_status (slice_get rs (length rs - 1))
+log_status (Err e) = log_refused_status (log_kind e)
+
 -- the status of each answer
 abbrev pub status_of : Answer → ℕ
 status_of answers.Usage = 1
@@ -59,13 +85,14 @@ status_of (answers.Wrong n) = 2
 status_of answers.OutOfMemory = 7
 status_of (answers.Ended end) = memory_status end.outcome
 status_of (answers.Filed outcome) = outcome_status outcome
+status_of (answers.Logged end) = log_status end.outcome
 status_of (answers.Shown report) = 0
 
 -- ---- texts
 
 -- the text of each answer; none for want of memory
 abbrev pub text_of : Answer → List ℕ
-text_of answers.Usage = codes "usage: raf_tool script | convert | demo <n> | file <path>\n"
+text_of answers.Usage = codes "usage: raf_tool script | convert | log | demo <n> | file <path>\n"
 text_of answers.NoDisk = codes "no disk\n"
 text_of answers.ReadFault = []
 text_of answers.Long = codes "script long\n"
@@ -73,6 +100,7 @@ text_of (answers.Wrong n) = line (codes "script line ") (decimal n)
 text_of answers.OutOfMemory = []
 text_of (answers.Ended end) = if memory_status end.outcome == 7 then [] else end_text end
 text_of (answers.Filed outcome) = if outcome_status outcome == 7 then [] else outcome_text outcome
+text_of (answers.Logged end) = if log_status end.outcome == 7 then [] else log_end_text end
 text_of (answers.Shown report) = report_text report
 
 -- the answer was told: the status is its own, and its text was written. Or the sink failed: status 6 and a prefix of that text

@@ -7,11 +7,14 @@ use Rattle.raf_script.specs.Script.{Reads}
 use Rattle.raf_script.specs.declared.script.Medium.TheVariants as medium
 use Rattle.raf_script.specs.declared.script.Script.{Script}
 use Rattle.raf_script.specs.Conversion.{ReadsConversion}
+use Rattle.raf_script.specs.LogScript.{ReadsLog}
+use Rattle.raf_script.specs.declared.log_script.LogScript.{LogScript}
 use Rattle.raf_script.specs.declared.conversion.Conversion.{Conversion}
 use Rattle.raf_run.specs.Answers.{Answers, IsUnread, HasRead, WhyUnread}
 use Rattle.raf_run.specs.Disk.{Disk}
 use Rattle.raf_run.specs.Ends.{Ends, EndsInMemory}
 use Rattle.raf_run.specs.Conversions.{EndsConverted}
+use Rattle.raf_run.specs.Logs.{EndsLogged}
 use Rattle.raf_run.specs.Demo.{demo_report}
 use Rattle.raf_run.specs.declared.words.Form.{Form}
 use Rattle.raf_run.specs.declared.words.Form.TheVariants as forms
@@ -48,6 +51,11 @@ abbrev pub ConvertDue : Intake → Answer → Type 0
 ConvertDue i (answers.Ended end) = (c : Conversion) × HasRead ReadsConversion i c × EndsConverted c end
 ConvertDue i a = WhyUnread ReadsConversion i a
 
+-- `log`: a log's source is read, and its commands run in memory
+abbrev pub LogDue : Intake → Answer → Type 0
+LogDue i (answers.Logged end) = (s : LogScript) × HasRead ReadsLog i s × EndsLogged s end
+LogDue i a = WhyUnread ReadsLog i a
+
 -- `demo <n>`: the commands of the demo are run in memory. Want of memory is free
 abbrev pub CanShow : ℕ → Answer → Type 0
 CanShow n (answers.Shown report) = report ≡ demo_report n
@@ -81,6 +89,7 @@ abbrev pub RunsBy : {D : Type 0} → Option Form → Intake → Disks D → Outp
 RunsBy None i d o status = Answers (UsageDue i) o status × IsKept d
 RunsBy (Some forms.Script) i d o status = Answers (ScriptDue i) o status × IsKept d
 RunsBy (Some forms.Convert) i d o status = Answers (ConvertDue i) o status × IsKept d
+RunsBy (Some forms.Log) i d o status = Answers (LogDue i) o status × IsKept d
 RunsBy (Some (forms.Demo n)) i d o status = Answers (DemoDue n i) o status × IsKept d
 RunsBy (Some forms.File) i d o status = Answers (FileDue d i) o status
 

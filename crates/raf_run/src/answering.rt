@@ -5,17 +5,21 @@ ghost use Rattle.program_io.specs.Streams.{ConsumesAtMost, intake_of};
 ghost use Rattle.raf_format.specs.Numbers.{variant_of};
 ghost use Rattle.raf_script.specs.Script.{Reads};
 ghost use Rattle.raf_script.specs.Conversion.{ReadsConversion};
+ghost use Rattle.raf_script.specs.LogScript.{ReadsLog};
 ghost use Rattle.raf_run.specs.Answers.{WasRead, WhyNoText, HasRead, WhyUnread, answer_of};
 ghost use Rattle.raf_run.specs.Disk.{disk_of};
-ghost use Rattle.raf_run.specs.Run.{ScriptDue, ConvertDue, FileDue, CanShow, disks_of};
+ghost use Rattle.raf_run.specs.Run.{ScriptDue, ConvertDue, LogDue, FileDue, CanShow, disks_of};
 
 use crate::answer::Answer;
 use crate::converting::run_conversion;
 use crate::demo::run_demo;
+use crate::logging::run_log;
 use crate::running::{Ended, run_in_memory, run_script};
 use aegis::raf::RafIo;
 use program_io::{ReadError, Source, read_whole};
-use raf_script::{Conversion, Medium, Script, ScriptError, parse, parse_conversion};
+use raf_script::{
+    Conversion, LogScript, Medium, Script, ScriptError, parse, parse_conversion, parse_log,
+};
 use std::alloc::Global;
 
 /// A text has at most this many bytes.
@@ -93,6 +97,31 @@ pub fn answer_conversion<S: Source>(alloc: Global, source: &mut S) -> Answer
 {
     match read_conversion(alloc, source) {
         Ok(conversion) => Answer::Ended(run_conversion(alloc, conversion)),
+        Err(answer) => answer,
+    }
+}
+
+// The log's source that a source holds, or the answer where it holds none.
+fn read_log<S: Source>(alloc: Global, source: &mut S) -> Result<LogScript, Answer>
+    ensures key { IfOk result (λ s. length s.key ≡ key_len (variant_of s.algorithm)) }
+    ensures script { IfOk result (HasRead ReadsLog (intake_of S.left S.faults source.old source.new)) }
+    ensures answer { IfErr result (WhyUnread ReadsLog (intake_of S.left S.faults source.old source.new)) }
+    ensures most { ConsumesAtMost (S.left source.old) (S.left source.new) (2 ^ 26 + 1) }
+{
+    let text = read_text(alloc, source)?;
+    match parse_log(alloc, &text) {
+        Ok(script) => Ok(script),
+        Err(error) => Err(unread(error)),
+    }
+}
+
+/// The answer of the word `log`: the commands that the source holds are run in memory.
+pub fn answer_log<S: Source>(alloc: Global, source: &mut S) -> Answer
+    ensures due { LogDue (intake_of S.left S.faults source.old source.new) result }
+    ensures most { ConsumesAtMost (S.left source.old) (S.left source.new) (2 ^ 26 + 1) }
+{
+    match read_log(alloc, source) {
+        Ok(script) => Answer::Logged(run_log(alloc, script)),
         Err(answer) => answer,
     }
 }

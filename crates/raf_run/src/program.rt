@@ -9,7 +9,9 @@ ghost use Rattle.raf_run.specs.ConversionLaws.{Converts, OneVerdict, OneConversi
 ghost use Rattle.raf_run.specs.Run.{RunsBy, disks_of, most_of};
 
 use crate::answer::Answer;
-use crate::answering::{Filed, answer_conversion, answer_demo, answer_file, answer_script};
+use crate::answering::{
+    Filed, answer_conversion, answer_demo, answer_file, answer_log, answer_script,
+};
 use crate::telling::tell;
 use crate::words::{Form, Words};
 use aegis::raf::RafIo;
@@ -52,6 +54,7 @@ fn run_form<S: Source, K: Sink, I: RafIo>(
         None => end(sink, Answer::Usage, disk),
         Some(Form::Script) => end(sink, answer_script(alloc, source), disk),
         Some(Form::Convert) => end(sink, answer_conversion(alloc, source), disk),
+        Some(Form::Log) => end(sink, answer_log(alloc, source), disk),
         Some(Form::Demo(writes)) => end(sink, answer_demo(alloc, writes), disk),
         Some(Form::File) => match disk {
             Some(io) => {

@@ -6,9 +6,11 @@ ghost use Rattle.raf_run.specs.Answers as spec;
 ghost use Rattle.raf_run.specs.Answers.{status_of, text_of, last_status, Told};
 
 use crate::answer::Answer;
+use crate::log_output::put_log_end;
 use crate::output::{put, put_end, put_number, put_outcome, put_report};
 use aegis::raf::{Error, ErrorKind, Replies, Reply};
 use program_io::{Failed, Sink};
+use raf_log::{LogError, LogErrorKind, LogReplies, LogReply};
 
 // The status after these replies, which the last one decides.
 fn replies_status(replies: &Replies) -> u8
@@ -73,6 +75,56 @@ fn memory_status(outcome: &Result<Replies, Error>) -> u8
     }
 }
 
+fn is_log_io(reply: &LogReply) -> bool
+    ensures { result ≡ spec.is_log_io reply.now }
+{
+    match reply {
+        LogReply::Refused(LogErrorKind::Raf(kind)) => is_io_kind(*kind),
+        _ => false,
+    }
+}
+
+// The status after these replies of a log, which the last one decides.
+fn log_replies_status(replies: &LogReplies) -> u8
+    ensures { result ≡ spec.log_last_status (slice_get replies.now (length replies.now - 1)) }
+{
+    match replies.get(replies.len().saturating_sub(1)) {
+        Some(reply) if reply.is_fault() => {
+            if is_log_io(reply) {
+                7
+            } else {
+                4
+            }
+        }
+        _ => 0,
+    }
+}
+
+fn log_refused_status(kind: LogErrorKind) -> u8
+    ensures { result ≡ spec.log_refused_status kind }
+{
+    match kind {
+        LogErrorKind::Raf(kind) => {
+            if is_io_kind(kind) {
+                7
+            } else {
+                refused_status(kind)
+            }
+        }
+        LogErrorKind::OutOfMemory => 7,
+        LogErrorKind::Format | LogErrorKind::TooLong | LogErrorKind::Overflow => 3,
+    }
+}
+
+fn log_status(outcome: &Result<LogReplies, LogError>) -> u8
+    ensures { result ≡ spec.log_status outcome.now }
+{
+    match outcome {
+        Ok(replies) => log_replies_status(replies),
+        Err(error) => log_refused_status(error.kind()),
+    }
+}
+
 // The status of an answer.
 fn status(answer: &Answer) -> u8
     ensures { result ≡ status_of answer.now }
@@ -85,6 +137,7 @@ fn status(answer: &Answer) -> u8
         Answer::OutOfMemory => 7,
         Answer::Ended(end) => memory_status(&end.outcome),
         Answer::Filed(outcome) => outcome_status(outcome),
+        Answer::Logged(end) => log_status(&end.outcome),
         Answer::Shown(_) => 0,
     }
 }
@@ -96,7 +149,7 @@ fn put_answer<K: Sink>(sink: &mut K, answer: &Answer) -> Result<(), Failed>
     match answer {
         Answer::Usage => put(
             sink,
-            b"usage: raf_tool script | convert | demo <n> | file <path>\n",
+            b"usage: raf_tool script | convert | log | demo <n> | file <path>\n",
         ),
         Answer::NoDisk => put(sink, b"no disk\n"),
         Answer::ReadFault => put(sink, b""),
@@ -115,6 +168,13 @@ fn put_answer<K: Sink>(sink: &mut K, answer: &Answer) -> Result<(), Failed>
                 put(sink, b"")
             } else {
                 put_outcome(sink, outcome)
+            }
+        }
+        Answer::Logged(end) => {
+            if log_status(&end.outcome) == 7 {
+                put(sink, b"")
+            } else {
+                put_log_end(sink, end)
             }
         }
         Answer::Shown(report) => put_report(sink, report),

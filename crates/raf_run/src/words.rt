@@ -17,6 +17,8 @@ pub enum Form {
     Script,
     /// `convert`: an old file is read, and moved into a new one in memory.
     Convert,
+    /// `log`: commands of a log are read, and run in memory.
+    Log,
     /// `demo <n>`: the commands of the demo with so many writes.
     Demo(u64),
     /// `file <path>`: a script is read, and run over a disk.
@@ -73,6 +75,7 @@ impl Words {
         match self.words.as_slice() {
             [word] if word.as_str() == "script" => Some(Form::Script),
             [word] if word.as_str() == "convert" => Some(Form::Convert),
+            [word] if word.as_str() == "log" => Some(Form::Log),
             [word, argument] => pair_of(word.as_bytes(), argument.as_bytes()),
             _ => None,
         }

@@ -55,5 +55,5 @@ returns-in-Err g c =
       set.0,
       set.1,
       set.2,
-      inr (c.in-Err.error, refl, record { after = r.after; error = r.error; refusal = r.refusal; refused = r.refused; sure = record { hash = r.sure.hash; rng = λ none. r.sure.rng (set.0.left ∙ none) }; handed = r.handed }),
+      inr (c.in-Err.field-0.error, refl, record { after = r.after; error = r.error; refusal = r.refusal; refused = r.refused; sure = record { hash = r.sure.hash; rng = λ none. r.sure.rng (set.0.left ∙ none) }; handed = r.handed }),
     )
