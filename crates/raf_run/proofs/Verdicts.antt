@@ -270,7 +270,7 @@ module _ (c : Conversion) (from to : Handle) (old_builder : Settings) (old_is : 
         by_pieces can
         ∙ ap (λ (s : Shape). piece_refusal s.nonce_len s.chunk_size F (chunk_count piece_len F.size) 0 (length c.random - 32)) (sym shape_G)
         ∙ moved_on F pieces G 0 (chunk_count piece_len F.size) (length c.random - 32) size_G (omega arith) are (held_some D to G holds_G)
-            (subst AllThere (sym bare_G) tt) (held_count D to G holds_G) can_G readable whole enough
+        (subst AllThere (sym bare_G) tt) (held_count D to G holds_G) can_G readable whole enough
         ∙ ap (λ (s : Shape). piece_refusal s.nonce_len s.chunk_size F (chunk_count piece_len (F.size - (0 + length (concat pieces)))) (0 + length (concat pieces)) (length c.random - 32 - asked_in None G (writes 0 pieces))) shape_G
         ∙ ap (λ (n : ℕ). P F (chunk_count piece_len (F.size - n)) n (length c.random - 32 - asked_in None G (writes 0 pieces))) (let e : 0 + length (concat pieces) ≡ length (concat pieces) = omega arith in e)
       where
@@ -419,10 +419,11 @@ module _ (c : Conversion) (from to : Handle) (old_builder : Settings) (old_is : 
                 where
                   byte : (p : ℕ) → length (concat pieces) ≤ p → p < length (concat pieces) + length (x ∷ xs) → (byte : ℕ) × IsByteOf F.shape.chunk_size F.chunks p byte
                   byte p lo hi =
-                      let e : length (concat pieces) + (p - length (concat pieces)) ≡ p = omega (arith, lo) in
-                      (slice_index (x ∷ xs) (p - length (concat pieces)),
-                      subst (λ (n : ℕ). IsByteOf F.shape.chunk_size F.chunks n (slice_index (x ∷ xs) (p - length (concat pieces)))) e
-                      (un.bytes F holds_F (p - length (concat pieces)) (omega (arith, lo, hi))))
+                      let e : length (concat pieces) + (p - length (concat pieces)) ≡ p = omega (arith, lo) in (
+                        slice_index (x ∷ xs) (p - length (concat pieces)),
+                        subst (λ (n : ℕ). IsByteOf F.shape.chunk_size F.chunks n (slice_index (x ∷ xs) (p - length (concat pieces)))) e
+                            (un.bytes F holds_F (p - length (concat pieces)) (omega (arith, lo, hi))),
+                      )
 
               few : length c.random - 32 - asked_in None G (writes 0 pieces) < asked_at D.nonce_len c.chunk_size (length (concat pieces)) (min piece_len (F.size - length (concat pieces)))
               few =
@@ -494,11 +495,15 @@ module _ (c : Conversion) (from to : Handle) (old_builder : Settings) (old_is : 
           → Ends C D (answers_of None) (answers_of None) piece_len from from' to to' here there pieces result → EndsRight c end
       ended (Ok u) out storage (all, read, wrote) =
           let all_F : length (concat pieces) ≡ F.size = all ∙ sym size_F in
-          inr (None, inr (F, opens_F, sym (all_moved can here there pieces moves all_F)), (
-            ap memory_status out,
-            out,
-            whole_there can here there pieces moves end.storage all_F (subst (λ (h : Handle). h.outside.bytes ≡ Some end.storage) wrote storage),
-          ))
+          inr (
+            None,
+            inr (F, opens_F, sym (all_moved can here there pieces moves all_F)),
+            (
+              ap memory_status out,
+              out,
+              whole_there can here there pieces moves end.storage all_F (subst (λ (h : Handle). h.outside.bytes ≡ Some end.storage) wrote storage),
+            ),
+          )
       ended (Err e) out storage (more, why) = stopped e.side (kind_of e.error) (e.error, out, refl) more why
 
   pub moved_right : (end : End) → Moved (cipher_of (variant_of c.old_algorithm)) (cipher_of (variant_of c.algorithm)) from to end → EndsRight c end
