@@ -1,5 +1,5 @@
 -- The words that the program is started with (this project's own).
-use Rattle.std.specs.Prelude.{◌∷◌, [], ℕ, Bool, List, codes, Option, Some, None, Result, Ok, Err, if◌then◌else◌, nat_le, bytes_eq}
+use Rattle.std.specs.Prelude.{◌∷◌, [], ℕ, List, codes, Option, Some, None, Result, Ok, Err, if◌then◌else◌, nat_le, bytes_eq}
 use Rattle.hex.specs.Hex.{decode_sized}
 use Rattle.hex.specs.declared.error.FromHexError.{FromHexError}
 use Rattle.raf_script.specs.Words.{number}
