@@ -71,7 +71,7 @@ SpellsStart medium words (start.Create size version) = (w : List ℕ) × SpellsN
 -- A grammar of five lines of settings, and then a line an item; what a line of words spells as an item is left to it.
 module _ {C : Type 0} (SpellsItem : List (List ℕ) → C → Type 0) (medium : Medium) where
   -- The text is five lines with these settings, over a storage of this kind, and then a line for each of these items.
-  pub record SpellsLines (text : List ℕ) (s : Settings) (items : List C) : Type 0 where
+  pub record SpellsLines (text : List ℕ) (s : Settings) (cs : List C) : Type 0 where
     pub algorithm_line : List (List ℕ)
     pub key_line : List (List ℕ)
     pub randomness_line : List (List ℕ)
@@ -84,7 +84,7 @@ module _ {C : Type 0} (SpellsItem : List (List ℕ) → C → Type 0) (medium : 
     pub randomness : SpellsRandomness randomness_line s.randomness
     pub tree : SpellsTree tree_line s.max_chunks
     pub start : SpellsStart medium start_line s.start
-    pub items : AllZip SpellsItem item_lines items
+    pub items : AllZip SpellsItem item_lines cs
 
   -- A line of words fits its place, which is after these lines. After the fifth line a text may end.
   abbrev pub FitsLines : List (List (List ℕ)) → List (List ℕ) → Type 0

@@ -24,6 +24,7 @@ pub fn line_at(number: u64, text: &[u8]) -> Result<(&[u8], &[u8]), ScriptError>
 }
 
 /// Whether no line is left.
+#[tactic(auto, using(crate::proofs::PartsLemmas::end_of))]
 pub fn no_line(text: &[u8]) -> bool
     ensures { result ≡ is_end (lines text.now) }
 {
