@@ -8,3 +8,5 @@ pub mod LogLemmas
 pub mod PlaceLemmas
 pub mod WrongLemmas
 pub mod ContentLemmas
+pub mod ConversionLemmas
+pub mod LawLemmas
