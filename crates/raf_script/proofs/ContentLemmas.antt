@@ -1,6 +1,5 @@
 -- A reading of a text of five lines of settings and a line an item, by what the text spells.
-use Rattle.std.proofs.Common.{◌≡◌, ℕ, List, ◌∷◌, [], Result, Ok, Err, sym, ap, ◌∙◌}
-use Rattle.raf_log.specs.declared.command.LogCommand.{LogCommand}
+use Rattle.std.proofs.Common.{ℕ, List, Result, Ok, Err, sym, ◌∙◌}
 use Rattle.raf_script.specs.Lines.{Gives}
 use Rattle.raf_script.specs.Reading.{command_words, log_command_words, whole}
 use Rattle.raf_script.specs.Script.{SpellsCommand, settings_of, Reads}

@@ -1,11 +1,11 @@
 -- A reading of a conversion, by what the text spells.
-use Rattle.std.proofs.Common.{◌≡◌, ℕ, ◌+◌, ◌<◌, ◌≤◌, Bool, true, false, List, [], ◌∷◌, ◌++◌, length, map, Option, Some, None, Result, Ok, Err, refl, sym, ap, ◌∙◌, arith, rules, subst, inl, inr}
+use Rattle.std.proofs.Common.{◌≡◌, ℕ, ◌+◌, true, List, [], ◌∷◌, length, map, Option, Some, Result, Ok, Err, refl, sym, ap, ◌∙◌, arith, rules, subst, inr}
 use Rattle.std.specs.Prelude.{codes, if◌then◌else◌}
 use Rattle.std.specs.List.{join_with_byte}
 use Rattle.raf_format.specs.declared.algorithm_id.AlgorithmId.{AlgorithmId}
 use Rattle.raf_format.specs.declared.version.Version.{Version}
 use Rattle.raf_script.specs.Words.{words, number, hex_bytes}
-use Rattle.raf_script.specs.Lines.{◌>>=◌, Gives, fits, first, lines}
+use Rattle.raf_script.specs.Lines.{Gives, fits, first, lines}
 use Rattle.raf_script.specs.Reading.{argument, algorithm_words, key_words, version_named, bytes_words, create_words, is_end, conversion}
 use Rattle.raf_script.specs.Places.{IsFirstWrong}
 use Rattle.raf_script.specs.Settings.{SpellsKey, version_word}

@@ -1,22 +1,19 @@
 -- A text is read in one way only.
-use Rattle.std.proofs.Common.{◌≡◌, ℕ, ◌+◌, List, [], ◌∷◌, ◌++◌, length, Option, Some, Result, Ok, refl, sym, ap, ◌∙◌, append_assoc, subst}
+use Rattle.std.proofs.Common.{◌≡◌, ℕ, suc, ◌+◌, List, [], ◌∷◌, ◌++◌, length, Option, Some, refl, sym, ap, ◌∙◌, append_assoc, subst}
 use Rattle.std.specs.List.{join_with_byte}
 use Rattle.std.proofs.lemmas.List.{append_cancel_left, append-nil}
 use Rattle.raf_log.specs.declared.command.LogCommand.{LogCommand}
 use Rattle.raf.specs.declared.command.Command.{Command}
 use Rattle.raf_script.specs.Words.{words}
 use Rattle.raf_script.specs.Lines.{lines}
-use Rattle.raf_script.specs.Reading.{command_words, log_command_words, whole, conversion}
-use Rattle.raf_script.specs.Places.{line_text, text_of, AllFit, IsFirstWrong}
+use Rattle.raf_script.specs.Reading.{command_words, log_command_words}
+use Rattle.raf_script.specs.Places.{line_text, text_of, AllFit}
 use Rattle.raf_script.specs.Script.{SpellsCommand, settings_of, Spells, Fits}
 use Rattle.raf_script.specs.LogScript.{SpellsLogCommand, log_settings, SpellsLog, FitsLog}
 use Rattle.raf_script.specs.Conversion.{SpellsConversion, FitsConversion}
 use Rattle.raf_script.specs.Laws.{OneContent, OneWrongLine}
-use Rattle.raf_script.specs.declared.conversion.Conversion.{Conversion}
-use Rattle.raf_script.specs.declared.log_script.LogScript.{LogScript}
 use Rattle.raf_script.specs.declared.script.Medium.{Medium}
 use Rattle.raf_script.specs.declared.script.Medium.TheVariants.{Memory}
-use Rattle.raf_script.specs.declared.script.Script.{Script}
 use Rattle.raf_script.specs.declared.script.Settings.{Settings}
 use Rattle.raf_script.proofs.SpellingLemmas.{IsLine, lines_of_front, words_of_line, fits_line, lines_read, command_is_line, command_read}
 use Rattle.raf_script.proofs.LogLemmas.{log_command_is_line, log_command_read}
@@ -55,7 +52,7 @@ module _ (G : List (List (List ℕ)) → List (List ℕ) → Type 0) (line : (be
       let after : text_of wss ++ rest ≡ text_of uss ++ more = append_cancel_left (line_text ws) (text_of wss ++ rest) (text_of uss ++ more) here in
       let g' : AllFit G (done ++ ws ∷ []) uss = subst (λ (l : List (List ℕ)). AllFit G (done ++ l ∷ []) uss) same g.1 in
       let q' : IsStuck (done ++ ws ∷ uss) more = subst (λ (l : List (List ℕ)). IsStuck (done ++ l ∷ uss) more) same q in
-      ap (λ (n : ℕ). n + 1) (same_count (done ++ ws ∷ []) wss uss rest more f.1 g' after (regroup done ws wss rest p) (regroup done ws uss more q'))
+      ap suc (same_count (done ++ ws ∷ []) wss uss rest more f.1 g' after (regroup done ws wss rest p) (regroup done ws uss more q'))
 
   pub one_wrong_line : (least : ℕ) → OneWrongLine G least
   one_wrong_line least text n m a b =
@@ -64,17 +61,13 @@ module _ (G : List (List (List ℕ)) → List (List ℕ) → Type 0) (line : (be
 
 pub one_script : (m : Medium) → OneContent (Spells m)
 one_script m text s u p q =
-    let same : ◌≡◌ {A = Settings × List Command} (settings_of s, s.commands) (settings_of u, u.commands) = ok_same (
-      sym (lines_read SpellsCommand command_words command_is_line command_read m text (settings_of s) s.commands p) ∙ lines_read SpellsCommand command_words command_is_line command_read m text (settings_of u) u.commands q,
-    ) in
+    let same : ◌≡◌ {A = Settings × List Command} (settings_of s, s.commands) (settings_of u, u.commands) = ok_same (sym (lines_read SpellsCommand command_words command_is_line command_read m text (settings_of s) s.commands p) ∙ lines_read SpellsCommand command_words command_is_line command_read m text (settings_of u) u.commands q) in
     ap (λ (v : Settings × List Command). record { algorithm = v.0.algorithm; key = v.0.key; randomness = v.0.randomness; max_chunks = v.0.max_chunks; start = v.0.start; commands = v.1 }) same
 
 pub one_log : OneContent SpellsLog
 one_log text s u p q =
-    let same : ◌≡◌ {A = Settings × List LogCommand} (log_settings s, s.commands) (log_settings u, u.commands) = ok_same (
-      sym (lines_read SpellsLogCommand log_command_words log_command_is_line log_command_read Memory text (log_settings s) s.commands p)
-      ∙ lines_read SpellsLogCommand log_command_words log_command_is_line log_command_read Memory text (log_settings u) u.commands q,
-    ) in
+    let same : ◌≡◌ {A = Settings × List LogCommand} (log_settings s, s.commands) (log_settings u, u.commands) = ok_same (sym (lines_read SpellsLogCommand log_command_words log_command_is_line log_command_read Memory text (log_settings s) s.commands p)
+    ∙ lines_read SpellsLogCommand log_command_words log_command_is_line log_command_read Memory text (log_settings u) u.commands q) in
     ap (λ (v : Settings × List LogCommand). record { algorithm = v.0.algorithm; key = v.0.key; randomness = v.0.randomness; max_chunks = v.0.max_chunks; start = v.0.start; commands = v.1 }) same
 
 pub one_conversion : OneContent SpellsConversion

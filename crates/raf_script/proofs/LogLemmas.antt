@@ -1,5 +1,5 @@
 -- A command of a log: what was read is spelled, and what is spelled is read.
-use Rattle.std.proofs.Common.{◌≡◌, ℕ, ◌+◌, ◌<◌, List, [], ◌∷◌, length, Result, Ok, Err, refl, arith, rules}
+use Rattle.std.proofs.Common.{◌≡◌, ℕ, List, [], ◌∷◌, Ok, refl, arith, rules}
 use Rattle.std.specs.Prelude.{codes}
 use Rattle.raf_log.specs.declared.command.LogCommand.{LogCommand}
 use Rattle.raf_log.specs.declared.command.LogCommand.TheVariants.{Append, Get, Count, Commitment}

@@ -1,6 +1,6 @@
 -- Places in a text by any grammar of lines, and what a reading of one line shows of its place.
 use Rattle.std.proofs.Common.{◌≡◌, ℕ, ◌+◌, ◌≤◌, ◌<◌, Bool, true, false, List, [], ◌∷◌, ◌++◌, length, Option, Some, None, Result, Ok, Err, refl, sym, ap, ◌∙◌, append_assoc, arith, subst, inl, inr}
-use Rattle.std.specs.Prelude.{bytes_eq, codes, if◌then◌else◌, ◌==◌, ◌⊎◌, nat_eq}
+use Rattle.std.specs.Prelude.{if◌then◌else◌, ◌⊎◌, nat_eq}
 use Rattle.std.specs.List.{join_with_byte, onto_first}
 use Rattle.std.proofs.lemmas.Bool.{eqb-true}
 use Rattle.std.proofs.lemmas.List.{append-nil}

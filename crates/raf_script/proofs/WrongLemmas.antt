@@ -1,21 +1,19 @@
 -- Where a text of five lines of settings and a line an item reads as no content, the line that is named is the first that doesn't fit.
-use Rattle.std.proofs.Common.{◌≡◌, ℕ, ◌+◌, ◌≤◌, ◌<◌, Bool, true, false, List, [], ◌∷◌, ◌++◌, length, Option, Some, None, Result, Ok, Err, refl, sym, ap, ◌∙◌, arith, subst, inl, inr}
-use Rattle.std.specs.Prelude.{bytes_eq, codes, if◌then◌else◌, ◌==◌}
+use Rattle.std.proofs.Common.{◌≡◌, ℕ, ◌+◌, List, [], ◌∷◌, ◌++◌, length, Option, Some, None, Result, Ok, Err, refl, sym, ◌∙◌, arith, subst, inr}
+use Rattle.std.specs.Prelude.{bytes_eq, codes, ◌==◌}
 use Rattle.std.specs.List.{join_with_byte}
 use Rattle.std.proofs.lemmas.List.{length-append}
 use Rattle.aegis_core.specs.Sealing.{key_len}
 use Rattle.raf_format.specs.Numbers.{variant_of}
 use Rattle.raf_format.specs.declared.algorithm_id.AlgorithmId.{AlgorithmId}
 use Rattle.raf_script.specs.Words.{words, number, hex_bytes}
-use Rattle.raf_script.specs.Lines.{◌>>=◌, fits, first, lines}
-use Rattle.raf_script.specs.Reading.{plain_command, truncate_command, range_command, command_words, plain_log_command, entry_command, log_command_words, items, argument, algorithm_named, algorithm_words, key_words, randomness_words, tree_words, may_hold, start_words, settings, whole}
+use Rattle.raf_script.specs.Lines.{fits, lines}
+use Rattle.raf_script.specs.Reading.{plain_command, truncate_command, range_command, command_words, plain_log_command, entry_command, log_command_words, items, argument, algorithm_named, algorithm_words, key_words, randomness_words, tree_words, start_words, settings, whole}
 use Rattle.raf_script.specs.Places.{IsFirstWrong}
 use Rattle.raf_script.specs.Settings.{SpellsKey, FitsLines}
 use Rattle.raf_script.specs.declared.script.Medium.{Medium}
-use Rattle.raf_script.specs.declared.script.Settings.{Settings}
-use Rattle.raf_script.proofs.ItemLemmas.{first_ok}
 use Rattle.raf_script.proofs.PlaceLemmas.{Names, err_value, names_ok, names_err, names_fits, names_if, names_bind, by_err, nonempty, Place, onward, stuck, unread, step}
-use Rattle.raf_script.proofs.ReadingLemmas.{FiveRead, five_read, algorithm_spelled, key_spelled, randomness_spelled, tree_spelled, start_spelled}
+use Rattle.raf_script.proofs.ReadingLemmas.{five_read, algorithm_spelled, key_spelled, randomness_spelled, tree_spelled, start_spelled}
 use Rattle.raf_script.proofs.SpellingLemmas.{IsLine, fits_line, algorithm_read, key_read, randomness_read, tree_read, start_read}
 
 -- ---- the readings of a line name it

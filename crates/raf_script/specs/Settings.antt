@@ -1,5 +1,5 @@
 -- What the five lines spell that a script and a log begin with, and a text of these and a line an item. The format is this project's own.
-use Rattle.std.specs.Prelude.{◌≡◌, ◌∷◌, [], ◌++◌, ℕ, ◌^◌, ◌<◌, ◌⊎◌, List, length, codes, decimal, Option, Some, None, Ok, ⊤}
+use Rattle.std.specs.Prelude.{◌≡◌, ◌∷◌, [], ℕ, ◌^◌, ◌<◌, ◌⊎◌, List, length, codes, decimal, Option, Some, None, Ok, ⊤}
 use Rattle.std.specs.List.{AllZip}
 use Rattle.hex.specs.Hex.{decode_of}
 use Rattle.aegis_core.specs.Sealing.{key_len}

@@ -37,12 +37,7 @@ pub struct Conversion {
 
 // The bytes on a line of two words, whose first word is this name.
 #[tactic(auto, unfolding(crate::specs::Reading::bytes_words))]
-fn named_bytes_at(
-    alloc: Global,
-    number: u64,
-    name: &[u8],
-    line: &[u8],
-) -> Result<Data, ScriptError>
+fn named_bytes_at(alloc: Global, number: u64, name: &[u8], line: &[u8]) -> Result<Data, ScriptError>
     ensures { Gives (λ b. b) result (bytes_words number name.now (words line.now)) }
 {
     let text = argument_at(number, name, line)?;

@@ -31,12 +31,7 @@ fn plain_log_at(number: u64, word: &[u8]) -> Result<LogCommand, ScriptError>
 
 // A command of two words.
 #[tactic(auto, unfolding(crate::specs::Reading::entry_command))]
-fn entry_at(
-    alloc: Global,
-    number: u64,
-    word: &[u8],
-    rest: &[u8],
-) -> Result<LogCommand, ScriptError>
+fn entry_at(alloc: Global, number: u64, word: &[u8], rest: &[u8]) -> Result<LogCommand, ScriptError>
     ensures { Gives (λ c. c) result (entry_command number word.now rest.now) }
 {
     if word == b"append".as_slice() {
