@@ -291,18 +291,17 @@ pub record FiveRead (medium : Medium) (text : List ℕ) (s : Settings) (more : L
   pub l2 : Cut
   pub l3 : Cut
   pub l4 : Cut
-  pub l5 : Cut
+  pub l5 : List ℕ
   pub first1 : first 1 (lines text) ≡ Ok l1
   pub first2 : first 2 l1.1 ≡ Ok l2
   pub first3 : first 3 l2.1 ≡ Ok l3
   pub first4 : first 4 l3.1 ≡ Ok l4
-  pub first5 : first 5 l4.1 ≡ Ok l5
+  pub first5 : first 5 l4.1 ≡ Ok (l5, more)
   pub algorithm : algorithm_words 1 (words l1.0) ≡ Ok s.algorithm
   pub key : key_words 2 s.algorithm (words l2.0) ≡ Ok s.key
   pub randomness : randomness_words 3 (words l3.0) ≡ Ok s.randomness
   pub tree : tree_words 4 (words l4.0) ≡ Ok s.max_chunks
-  pub start : start_words 5 medium (words l5.0) ≡ Ok s.start
-  pub rest : l5.1 ≡ more
+  pub start : start_words 5 medium (words l5) ≡ Ok s.start
 
 pub five_read : (medium : Medium) (text : List ℕ) (st : Settings × List (Option (List ℕ))) → settings medium text ≡ Ok st → FiveRead medium text st.0 st.1
 unfolding settings
@@ -322,7 +321,7 @@ five_read medium text st h =
       l2 = l2;
       l3 = l3;
       l4 = l4;
-      l5 = l5;
+      l5 = l5.0;
       first1 = r1;
       first2 = r2;
       first3 = r3;
@@ -333,7 +332,6 @@ five_read medium text st h =
       randomness = rr;
       tree = rt;
       start = rb;
-      rest = refl;
     })))))))))))
 
 module _ {C : Type 0} (SpellsItem : List (List ℕ) → C → Type 0) (item : ℕ → List (List ℕ) → Result C ℕ)
@@ -361,20 +359,20 @@ module _ {C : Type 0} (SpellsItem : List (List ℕ) → C → Type 0) (item : �
       by_bind (items item 6 st.1) _ (s, cs) h (λ list rc k.
       let five' = five_read medium text st rs in
       let rest = items_spelled 6 st.1 list rc in
-      let shape = cut_lines (lines text) five'.l1 five'.l2 five'.l3 five'.l4 five'.l5 five'.first1 five'.first2 five'.first3 five'.first4 five'.first5 in
+      let shape = cut_lines (lines text) five'.l1 five'.l2 five'.l3 five'.l4 (five'.l5, st.1) five'.first1 five'.first2 five'.first3 five'.first4 five'.first5 in
       came (λ (v : Settings × List C). SpellsLines SpellsItem medium text v.0 v.1) (st.0, list) (s, cs) k (record {
         algorithm_line = words five'.l1.0;
         key_line = words five'.l2.0;
         randomness_line = words five'.l3.0;
         tree_line = words five'.l4.0;
-        start_line = words five'.l5.0;
+        start_line = words five'.l5;
         item_lines = rest.0;
-        spelled = text_spelled text (words five'.l1.0 ∷ words five'.l2.0 ∷ words five'.l3.0 ∷ words five'.l4.0 ∷ words five'.l5.0 ∷ rest.0)
-            (shape ∙ five (line_joined five'.l1.0) (line_joined five'.l2.0) (line_joined five'.l3.0) (line_joined five'.l4.0) (line_joined five'.l5.0) (five'.rest ∙ rest.1));
+        spelled = text_spelled text (words five'.l1.0 ∷ words five'.l2.0 ∷ words five'.l3.0 ∷ words five'.l4.0 ∷ words five'.l5 ∷ rest.0)
+            (shape ∙ five (line_joined five'.l1.0) (line_joined five'.l2.0) (line_joined five'.l3.0) (line_joined five'.l4.0) (line_joined five'.l5) rest.1);
         algorithm = algorithm_spelled 1 (words five'.l1.0) st.0.algorithm five'.algorithm;
         key = key_spelled 2 st.0.algorithm (words five'.l2.0) st.0.key five'.key;
         randomness = randomness_spelled 3 (words five'.l3.0) st.0.randomness five'.randomness;
         tree = tree_spelled 4 (words five'.l4.0) st.0.max_chunks five'.tree;
-        start = start_spelled 5 medium (words five'.l5.0) st.0.start five'.start;
+        start = start_spelled 5 medium (words five'.l5) st.0.start five'.start;
         items = rest.2;
       })))

@@ -144,7 +144,7 @@ module _ {C : Type 0} (SpellsItem : List (List ℕ) → C → Type 0) (item : �
       (st.0.algorithm, st.0.key, algorithm_spelled 1 (words five.l1.0) st.0.algorithm five.algorithm, key_spelled 2 st.0.algorithm (words five.l2.0) st.0.key five.key) in
       let n3 = onward Fits text (words five.l1.0 ∷ words five.l2.0 ∷ []) n2.0 five.l2.1 3 five.l3 n2.1 n2.2 five.first3 (st.0.randomness, randomness_spelled 3 (words five.l3.0) st.0.randomness five.randomness) in
       let n4 = onward Fits text (words five.l1.0 ∷ words five.l2.0 ∷ words five.l3.0 ∷ []) n3.0 five.l3.1 4 five.l4 n3.1 n3.2 five.first4 (st.0.max_chunks, tree_spelled 4 (words five.l4.0) st.0.max_chunks five.tree) in
-      let n5 = onward Fits text (words five.l1.0 ∷ words five.l2.0 ∷ words five.l3.0 ∷ words five.l4.0 ∷ []) n4.0 five.l4.1 5 five.l5 n4.1 n4.2 five.first5 (st.0.start, start_spelled 5 medium (words five.l5.0) st.0.start five.start) in
+      let n5 = onward Fits text (words five.l1.0 ∷ words five.l2.0 ∷ words five.l3.0 ∷ words five.l4.0 ∷ []) n4.0 five.l4.1 5 (five.l5, st.1) n4.1 n4.2 five.first5 (st.0.start, start_spelled 5 medium (words five.l5) st.0.start five.start) in
       by_err (items item 6 st.1) _ m h
-      (wrong_item (words five.l1.0) (words five.l2.0) (words five.l3.0) (words five.l4.0) (words five.l5.0) st.1 6 m [] n5.0 n5.1 (n5.2 ∙ five.rest) refl)
+      (wrong_item (words five.l1.0) (words five.l2.0) (words five.l3.0) (words five.l4.0) (words five.l5) st.1 6 m [] n5.0 n5.1 n5.2 refl)
       (λ cs got' h. (cc)))
