@@ -39,10 +39,9 @@ use Rattle.raf_script.specs.declared.script.Randomness.TheVariants.{Random, Seed
 use Rattle.raf_script.specs.declared.script.Start.{Start}
 use Rattle.raf_script.specs.declared.script.Start.TheVariants.{Storage, Create}
 use Rattle.raf_run.specs.Disk.{Disk, memory_of, over, disk_in}
-use Rattle.raf_run.specs.Ends.{Ground, BuilderOf, Served, ServedAnew, RefusedAnew, EndsOn, EndsInMemory, ground_of, told_by, first_bytes}
+use Rattle.raf_run.specs.Ends.{Ground, BuilderOf, Served, ServedAnew, RefusedAnew, EndsOn, ground_of, told_by, first_bytes}
 use Rattle.raf_run.specs.Answers.{outcome_status, memory_status, tells_io, last_status, refused_status, is_io, is_io_kind}
 use Rattle.raf_run.specs.Laws.{IsReadyOn, IsValidOn, IsReadyAnew, IsValidAnew, IsValid, CanCreate, IsExcused, Completes, CompletesInMemory, new_header}
-use Rattle.raf_run.specs.declared.answer.End.{End}
 use Rattle.raf_run.proofs.OneText.{taken_so_many, last_of, new_file}
 
 -- ---- no reply that is due is a fault

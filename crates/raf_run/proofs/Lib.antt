@@ -10,6 +10,7 @@ pub mod PlainFiles
 pub mod Pieces
 pub mod SamePieces
 pub mod Openings
+pub mod Refusals
 pub mod Verdicts
 pub mod OneConversion
 pub mod DemoLemmas

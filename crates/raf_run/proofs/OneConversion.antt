@@ -1,5 +1,5 @@
 -- What is written of a conversion is one function of its content, unless random bytes are wanting for a piece.
-use Rattle.std.proofs.Common.{◌≡◌, ℕ, ◌+◌, ◌<◌, ◌≤◌, Bool, true, false, List, [], ◌++◌, length, Option, Some, None, refl, sym, ap, ◌∙◌, arith, subst, inl, inr}
+use Rattle.std.proofs.Common.{◌≡◌, ℕ, ◌<◌, ◌≤◌, Bool, true, false, List, [], ◌++◌, length, Option, Some, None, refl, sym, ap, ◌∙◌, arith, subst, inl, inr}
 use Rattle.std.specs.Prelude.{◌⊎◌, ◌≢◌, codes}
 use Rattle.raf_format.specs.Numbers.{variant_of}
 use Rattle.raf_format.specs.File.{File, Opens}
@@ -20,7 +20,8 @@ use Rattle.raf_run.specs.declared.answer.End.{End}
 use Rattle.raf_run.proofs.OneText.{some_same}
 use Rattle.raf_run.proofs.Openings.{no_cause, why_unmade}
 use Rattle.raf_run.proofs.SamePieces.{pieces_one}
-use Rattle.raf_run.proofs.Verdicts.{Leaves, stored, moved_leaves, made_of, converts, one_verdict, want_status, refused_told, why_unopened}
+use Rattle.raf_run.proofs.Verdicts.{Leaves, stored, moved_leaves, made_of, converts, one_verdict}
+use Rattle.raf_run.proofs.Refusals.{want_status, refused_told, why_unopened}
 
 -- ---- what a conversion leaves, by how far it came
 

@@ -31,11 +31,10 @@ use Rattle.raf.specs.declared.command.Reply.TheVariants.{Refused}
 use Rattle.raf_script.specs.declared.script.Start.{Start}
 use Rattle.raf_script.specs.declared.script.Start.TheVariants.{Storage, Create}
 use Rattle.raf_run.specs.Disk.{Disk, memory_of, over, disk_in}
-use Rattle.raf_run.specs.Ends.{Ground, BuilderOf, Served, ServedAnew, RefusedAnew, EndsOn, EndsInMemory, ground_of, told_by, first_bytes}
+use Rattle.raf_run.specs.Ends.{Ground, BuilderOf, Served, ServedAnew, RefusedAnew, EndsOn, ground_of, told_by, first_bytes}
 use Rattle.raf_run.specs.Text.{end_text}
 use Rattle.raf_run.specs.Answers.{outcome_status, memory_status, tells_io, last_status, refused_status}
 use Rattle.raf_run.specs.Laws.{OneEnd, OneText, new_header}
-use Rattle.raf_run.specs.declared.answer.End.{End}
 
 -- ---- the replies that are due are those of one list
 

@@ -1,24 +1,23 @@
 -- The pieces of a conversion: which random bytes their writes ask, and what refuses them first.
-use Rattle.std.proofs.Common.{◌≡◌, ℕ, zero, suc, ◌+◌, ◌-◌, ◌*◌, ◌/◌, ◌^◌, ◌<◌, ◌≤◌, min, max, Bool, true, false, cond, ◌&&◌, ◌||◌, List, [], ◌∷◌, ◌++◌, length, Option, Some, None, refl, sym, ap, ◌∙◌, arith, subst, inl, inr}
-use Rattle.std.specs.Prelude.{◌⊎◌, if◌then◌else◌, nat_lt, nat_le, not, is_some, unwrap_or, slice_get, slice_index, ⊤}
+use Rattle.std.proofs.Common.{◌≡◌, ℕ, zero, suc, ◌+◌, ◌-◌, ◌*◌, ◌/◌, ◌<◌, ◌≤◌, min, max, Bool, true, false, ◌&&◌, ◌||◌, List, [], ◌∷◌, ◌++◌, length, Option, Some, None, refl, sym, ap, ◌∙◌, arith, subst, inl, inr}
+use Rattle.std.specs.Prelude.{if◌then◌else◌, nat_lt, not, is_some, slice_get, ⊤}
 use Rattle.std.specs.List.{concat}
-use Rattle.std.proofs.Math.Nat.{div-mul-le_self, mul-le-mul_left, lt-div-mul-add}
+use Rattle.std.proofs.Math.Nat.{mul-le-mul_left, lt-div-mul-add}
 use Rattle.std.proofs.lemmas.Bool.{cases_lt}
 use Rattle.std.proofs.lemmas.Bool.Decides.{nat_tests}
 use Rattle.std.proofs.lemmas.List.{length-append}
 use Rattle.raf_format.specs.File.{File, chunk_count, chunk_len}
 use Rattle.raf_io.specs.declared.errors.ErrorKind.{ErrorKind}
-use Rattle.raf_io.specs.declared.errors.ErrorKind.TheVariants.{AuthenticationFailed, Rng}
 use Rattle.raf.specs.Apply.{apply, after, rebuilt, renewed, new_chunk}
 use Rattle.raf.specs.Change.{Change, write_change}
 use Rattle.raf.specs.Concern.{can_have, valid, needed, meets, is_touched, none_missing, sum_where}
-use Rattle.raf.specs.Converted.{Begins, ArePieces, writes}
+use Rattle.raf.specs.Converted.{ArePieces, writes}
 use Rattle.raf.specs.Image.{asked_by, asked_in}
 use Rattle.raf.specs.Read.{IsByteOf}
 use Rattle.raf.specs.declared.command.Command.{Command}
 use Rattle.raf.specs.declared.command.Command.TheVariants as command
 use Rattle.raf.proofs.Places.{starts_below}
-use Rattle.raf.proofs.Conversions.{can_have_less, total_le}
+use Rattle.raf.proofs.Conversions.{can_have_less}
 use Rattle.raf_run.specs.Conversions.{piece_len}
 use Rattle.raf_run.specs.ConversionLaws.{asked_at, piece_refusal}
 

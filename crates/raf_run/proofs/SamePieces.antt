@@ -1,5 +1,5 @@
 -- The pieces of one file that are read from its front up to the first that can't be are one list.
-use Rattle.std.proofs.Common.{◌≡◌, ℕ, ◌+◌, ◌-◌, ◌*◌, ◌<◌, ◌≤◌, min, Bool, true, false, List, [], ◌∷◌, ◌++◌, length, get_or, Option, Some, refl, sym, ap, ◌∙◌, arith, subst, inl, inr}
+use Rattle.std.proofs.Common.{◌≡◌, ℕ, ◌+◌, ◌-◌, ◌*◌, ◌<◌, ◌≤◌, min, true, false, List, [], ◌∷◌, ◌++◌, length, get_or, Option, Some, refl, sym, ap, ◌∙◌, arith, subst, inl, inr}
 use Rattle.std.specs.Prelude.{◌⊎◌, slice_index, slice_get}
 use Rattle.std.specs.List.{concat}
 use Rattle.std.proofs.lemmas.List.{length-append, get_or_append_left, get_or-append_right, ext_get_or}
@@ -42,9 +42,10 @@ module _ (F : File) (short : Short F.shape.chunk_size F.chunks) where
     where
       byte : (p : ℕ) → o ≤ p → p < o + min piece_len (F.size - o) → (byte : ℕ) × IsByteOf F.shape.chunk_size F.chunks p byte
       byte p lo hi =
-          let e : o + (p - o) ≡ p = omega (arith, lo) in
-          (slice_index (q ++ concat qs) (p - o),
-          subst (λ (n : ℕ). IsByteOf F.shape.chunk_size F.chunks n (slice_index (q ++ concat qs) (p - o))) e (read (p - o) (omega (arith, lo, hi, len, length-append q (concat qs)))))
+          let e : o + (p - o) ≡ p = omega (arith, lo) in (
+            slice_index (q ++ concat qs) (p - o),
+            subst (λ (n : ℕ). IsByteOf F.shape.chunk_size F.chunks n (slice_index (q ++ concat qs) (p - o))) e (read (p - o) (omega (arith, lo, hi, len, length-append q (concat qs)))),
+          )
 
   front : (o : ℕ) (p : List ℕ) (ps : List (List ℕ)) → Readable F o (p ∷ ps) → (k : ℕ) → k < length p → IsByteOf F.shape.chunk_size F.chunks (o + k) (get_or p k 0)
   front o p ps read k lt = subst (IsByteOf F.shape.chunk_size F.chunks (o + k)) (get_or_append_left p (concat ps) 0 k lt) (read k (omega (arith, lt, length-append p (concat ps))))

@@ -1,6 +1,6 @@
 -- How a conversion ends: its verdict, and what follows of it.
-use Rattle.std.proofs.Common.{◌≡◌, ℕ, suc, ◌+◌, ◌-◌, ◌*◌, ◌^◌, ◌<◌, ◌≤◌, min, Bool, true, false, ◌&&◌, List, [], ◌∷◌, length, take, drop, Option, Some, None, Result, Ok, Err, refl, sym, ap, ◌∙◌, arith, subst, inl, inr}
-use Rattle.std.specs.Prelude.{◌⊎◌, if◌then◌else◌, nat_lt, nat_le, not, ◌≢◌, slice_index, IsErrAnd}
+use Rattle.std.proofs.Common.{◌≡◌, ℕ, suc, ◌+◌, ◌-◌, ◌<◌, ◌≤◌, min, Bool, true, false, ◌&&◌, List, [], ◌∷◌, length, take, drop, Option, Some, None, Result, Ok, Err, refl, sym, ap, ◌∙◌, arith, subst, inl, inr}
+use Rattle.std.specs.Prelude.{◌⊎◌, nat_lt, nat_le, ◌≢◌, slice_index, IsErrAnd}
 use Rattle.std.specs.List.{concat}
 use Rattle.std.proofs.lemmas.Bool.Decides.{nat_tests}
 use Rattle.std.proofs.lemmas.List.{length-append, length-drop}
@@ -8,29 +8,26 @@ use Rattle.raf_format.specs.Cipher.{Cipher, IsLawful, cipher_of}
 use Rattle.raf_format.specs.Numbers.{variant_of}
 use Rattle.raf_format.specs.Version.{version_number}
 use Rattle.raf_format.specs.Header.{sealed_header}
-use Rattle.raf_format.specs.File.{File, Opens, Shape, shape_of, chunk_count, file_of}
+use Rattle.raf_format.specs.File.{File, Opens, Shape, shape_of, chunk_count}
 use Rattle.raf_format.specs.declared.header.Header.{Header}
 use Rattle.raf_format.proofs.Ciphers.{lawful}
 use Rattle.raf_format.proofs.Opened.{opens_of, opens_one}
 use Rattle.raf_io.specs.Kinds.{kind_of}
 use Rattle.raf_io.specs.Source.{Takes, IsShort}
-use Rattle.raf_io.specs.declared.errors.Error.{Error}
 use Rattle.raf_io.specs.declared.errors.ErrorKind.{ErrorKind}
 use Rattle.raf_io.specs.declared.errors.ErrorKind.TheVariants.{Io, InvalidArgument, AuthenticationFailed, AlreadyExists, NotFound, Overflow, MerkleNotEnabled, CorruptedChunk, Rng, Hash, Broken, OutOfMemory}
-use Rattle.raf_io.specs.declared.errors.Reason.TheVariants.{ChunkSize}
 use Rattle.raf.specs.Apply.{file_after}
 use Rattle.raf.specs.Concern.{can_have, needed, none_missing}
-use Rattle.raf.specs.Converted.{Begins, HasBytes, ArePieces, writes, Filled, Moves, Unread, Unwritten, Stopped, Ends, Goes, Barred, Converted}
+use Rattle.raf.specs.Converted.{Begins, ArePieces, writes, Filled, Moves, Unread, Unwritten, Stopped, Ends}
 use Rattle.raf.specs.Due.{is_fault}
 use Rattle.raf.specs.Handle.{Handle, Holds, limit_of, outline}
 use Rattle.raf.specs.Image.{asked_by, asked_in, traced}
 use Rattle.raf.specs.Meaning.{Faultable}
-use Rattle.raf.specs.Opening.{Settings, Opened, Made, IsChunkSize, WhyNotOpened, WhyNotMade}
-use Rattle.raf.specs.Outside.{Outside, Caused}
+use Rattle.raf.specs.Opening.{Settings, Opened, Made, IsChunkSize}
+use Rattle.raf.specs.Outside.{Caused}
 use Rattle.raf.specs.Read.{IsByteOf}
 use Rattle.raf.specs.Stepped.{Failed, with_size}
 use Rattle.raf.specs.declared.command.Command.TheVariants as command
-use Rattle.raf.specs.declared.command.Reply.{Reply}
 use Rattle.raf.specs.declared.command.Reply.TheVariants.{Refused}
 use Rattle.raf.specs.declared.converting.ConvertError.{ConvertError}
 use Rattle.raf.specs.declared.converting.Side.{Side}
@@ -40,92 +37,16 @@ use Rattle.raf.proofs.Between.{Short}
 use Rattle.raf.proofs.OnlyReads.{still_held}
 use Rattle.raf_script.specs.declared.conversion.Conversion.{Conversion}
 use Rattle.raf_run.specs.Disk.{memory_of, over}
-use Rattle.raf_run.specs.Ends.{Ground, BuilderOf, answers_of}
-use Rattle.raf_run.specs.Answers.{memory_status, refused_status, is_io_kind}
-use Rattle.raf_run.specs.Conversions.{EndsConverted, EndsUnopened, EndsUnmade, EndsMoved, EndsStarved, RefusedBy, Moved, NotOpenedIn, Maker, piece_len, old_ground, new_ground, outcome_of}
-use Rattle.raf_run.specs.ConversionLaws.{is_want, piece_refusal, asked_at, header_of, refusal, Unopened, Verdict, IsWhole, Follows, Converts, OneVerdict}
+use Rattle.raf_run.specs.Ends.{BuilderOf, answers_of}
+use Rattle.raf_run.specs.Answers.{memory_status}
+use Rattle.raf_run.specs.Conversions.{RefusedBy, Moved, Maker, piece_len, old_ground, new_ground, outcome_of}
+use Rattle.raf_run.specs.ConversionLaws.{is_want, piece_refusal, asked_at, header_of, refusal, IsWhole, Converts, OneVerdict}
 use Rattle.raf_run.specs.declared.answer.End.{End}
 use Rattle.raf_run.proofs.OneText.{taken_so_many, new_file, NewFile, some_same}
 use Rattle.raf_run.proofs.SamePieces.{Readable, Stops}
-use Rattle.raf_run.proofs.Openings.{one_cause, no_cause, why_unmade, size_is, size_not}
+use Rattle.raf_run.proofs.Openings.{one_cause, no_cause, size_is}
+use Rattle.raf_run.proofs.Refusals.{kind_status, refused_told, EndsRight, refused_right, unopened_right, unmade_right}
 use Rattle.raf_run.proofs.Pieces.{AllThere, asked, moved_on, none_missing_read, count_step}
-
--- ---- statuses
-
-abbrev pub kind_status : ErrorKind → ℕ
-kind_status kind = if is_io_kind kind then 7 else refused_status kind
-
-pub want_status : (kind : ErrorKind) → is_want kind ≡ true → kind_status kind ≡ 7
-want_status Io is = refl
-want_status OutOfMemory is = refl
-want_status (InvalidArgument r) is = (cc)
-want_status AuthenticationFailed is = (cc)
-want_status AlreadyExists is = (cc)
-want_status NotFound is = (cc)
-want_status Overflow is = (cc)
-want_status MerkleNotEnabled is = (cc)
-want_status (CorruptedChunk index) is = (cc)
-want_status Rng is = (cc)
-want_status Hash is = (cc)
-want_status Broken is = (cc)
-
-cause_status : (kind : ErrorKind) → is_want kind ≡ false → kind_status kind ≡ 3
-cause_status Io is = (cc)
-cause_status OutOfMemory is = (cc)
-cause_status (InvalidArgument r) is = refl
-cause_status AuthenticationFailed is = refl
-cause_status AlreadyExists is = refl
-cause_status NotFound is = refl
-cause_status Overflow is = refl
-cause_status MerkleNotEnabled is = refl
-cause_status (CorruptedChunk index) is = refl
-cause_status Rng is = refl
-cause_status Hash is = refl
-cause_status Broken is = refl
-
-pub refused_told : (end : End) (kind : ErrorKind) → RefusedBy kind end → memory_status end.outcome ≡ kind_status kind
-refused_told end kind (error, is, by) = ap memory_status is ∙ ap kind_status by
-
-abbrev EndsRight : Conversion → End → Type 0
-EndsRight c end = (memory_status end.outcome ≡ 7) ⊎ ((v : Option ErrorKind) × Verdict c v × Follows c v end)
-
--- a refusal is want of memory, or its kind is the verdict
-refused_right : (c : Conversion) (end : End) (kind : ErrorKind) → RefusedBy kind end → (is_want kind ≡ false → Verdict c (Some kind)) → EndsRight c end
-refused_right c end kind by verdict = go (is_want kind) refl
-  where
-    go : (t : Bool) → is_want kind ≡ t → EndsRight c end
-    go true is = inl (refused_told end kind by ∙ want_status kind is)
-    go false is = inr (Some kind, verdict is, (refused_told end kind by ∙ cause_status kind is, by))
-
--- ---- the old file isn't opened
-
-pub why_unopened : (c : Conversion) (kind : ErrorKind) → NotOpenedIn (old_ground c) c.storage kind → WhyNotOpened (old_ground c).cipher (old_ground c).answers c.old_key None None c.storage kind
-why_unopened c kind (b, builder, (after, refused)) =
-    subst (λ (x : Option (List ℕ)). WhyNotOpened (old_ground c).cipher (old_ground c).answers c.old_key x None c.storage kind) builder.setting
-    (subst (λ (m : Option ℕ). WhyNotOpened (old_ground c).cipher (old_ground c).answers c.old_key b.outside.setting m c.storage kind) builder.most (refused.why c.storage refl))
-
-unopened_right : (c : Conversion) (end : End) → EndsUnopened c end → EndsRight c end
-unopened_right c end (kind, refused, by, empty) = refused_right c end kind by (λ cause. inl (kind, (cause, why_unopened c kind refused), refl))
-
--- ---- the new file isn't made
-
-module _ (c : Conversion) (F : File) (opens : Opens (old_ground c).cipher c.old_key c.storage F) where
-  unmade_right : (end : End) → EndsUnmade c end → EndsRight c end
-  unmade_right end (kind, (b, maker, (after, refused, bytes)), by) = refused_right c end kind by verdict
-    where
-      verdict : is_want kind ≡ false → Verdict c (Some kind)
-      verdict cause = go (why_unmade (new_ground c).answers b (over (memory_of []) b.outside) kind maker.builder.truncate maker.builder.setting maker.builder.most maker.builder.exact refused.why cause)
-        where
-          go : ((kind ≡ InvalidArgument ChunkSize) × (IsChunkSize b.chunk_size → ⊥)) ⊎ ((kind ≡ Rng) × IsChunkSize b.chunk_size × IsShort b.outside.left 32) → Verdict c (Some kind)
-          go (inl p) =
-              let no : IsChunkSize c.chunk_size → ⊥ = λ is. p.1 (subst IsChunkSize (sym maker.chunk_size) is) in
-              let is : refusal c F ≡ Some (InvalidArgument ChunkSize) = rw (size_not c.chunk_size no) refl in
-              inr (F, opens, ap (λ (k : ErrorKind). Some k) p.0 ∙ sym is)
-          go (inr p) =
-              let few : length c.random < 32 = subst (λ (l : Option (List ℕ)). IsShort l 32) maker.builder.left p.2 in
-              let short : nat_lt (length c.random) 32 ≡ true = grind (arith, nat_tests) in
-              let is : refusal c F ≡ Some Rng = rw (size_is c.chunk_size (subst IsChunkSize maker.chunk_size p.1), short) refl in
-              inr (F, opens, ap (λ (k : ErrorKind). Some k) p.0 ∙ sym is)
 
 -- ---- the old file is moved
 
@@ -270,7 +191,7 @@ module _ (c : Conversion) (from to : Handle) (old_builder : Settings) (old_is : 
         by_pieces can
         ∙ ap (λ (s : Shape). piece_refusal s.nonce_len s.chunk_size F (chunk_count piece_len F.size) 0 (length c.random - 32)) (sym shape_G)
         ∙ moved_on F pieces G 0 (chunk_count piece_len F.size) (length c.random - 32) size_G (omega arith) are (held_some D to G holds_G)
-            (subst AllThere (sym bare_G) tt) (held_count D to G holds_G) can_G readable whole enough
+        (subst AllThere (sym bare_G) tt) (held_count D to G holds_G) can_G readable whole enough
         ∙ ap (λ (s : Shape). piece_refusal s.nonce_len s.chunk_size F (chunk_count piece_len (F.size - (0 + length (concat pieces)))) (0 + length (concat pieces)) (length c.random - 32 - asked_in None G (writes 0 pieces))) shape_G
         ∙ ap (λ (n : ℕ). P F (chunk_count piece_len (F.size - n)) n (length c.random - 32 - asked_in None G (writes 0 pieces))) (let e : 0 + length (concat pieces) ≡ length (concat pieces) = omega arith in e)
       where
@@ -419,10 +340,11 @@ module _ (c : Conversion) (from to : Handle) (old_builder : Settings) (old_is : 
                 where
                   byte : (p : ℕ) → length (concat pieces) ≤ p → p < length (concat pieces) + length (x ∷ xs) → (byte : ℕ) × IsByteOf F.shape.chunk_size F.chunks p byte
                   byte p lo hi =
-                      let e : length (concat pieces) + (p - length (concat pieces)) ≡ p = omega (arith, lo) in
-                      (slice_index (x ∷ xs) (p - length (concat pieces)),
-                      subst (λ (n : ℕ). IsByteOf F.shape.chunk_size F.chunks n (slice_index (x ∷ xs) (p - length (concat pieces)))) e
-                      (un.bytes F holds_F (p - length (concat pieces)) (omega (arith, lo, hi))))
+                      let e : length (concat pieces) + (p - length (concat pieces)) ≡ p = omega (arith, lo) in (
+                        slice_index (x ∷ xs) (p - length (concat pieces)),
+                        subst (λ (n : ℕ). IsByteOf F.shape.chunk_size F.chunks n (slice_index (x ∷ xs) (p - length (concat pieces)))) e
+                            (un.bytes F holds_F (p - length (concat pieces)) (omega (arith, lo, hi))),
+                      )
 
               few : length c.random - 32 - asked_in None G (writes 0 pieces) < asked_at D.nonce_len c.chunk_size (length (concat pieces)) (min piece_len (F.size - length (concat pieces)))
               few =
@@ -494,11 +416,15 @@ module _ (c : Conversion) (from to : Handle) (old_builder : Settings) (old_is : 
           → Ends C D (answers_of None) (answers_of None) piece_len from from' to to' here there pieces result → EndsRight c end
       ended (Ok u) out storage (all, read, wrote) =
           let all_F : length (concat pieces) ≡ F.size = all ∙ sym size_F in
-          inr (None, inr (F, opens_F, sym (all_moved can here there pieces moves all_F)), (
-            ap memory_status out,
-            out,
-            whole_there can here there pieces moves end.storage all_F (subst (λ (h : Handle). h.outside.bytes ≡ Some end.storage) wrote storage),
-          ))
+          inr (
+            None,
+            inr (F, opens_F, sym (all_moved can here there pieces moves all_F)),
+            (
+              ap memory_status out,
+              out,
+              whole_there can here there pieces moves end.storage all_F (subst (λ (h : Handle). h.outside.bytes ≡ Some end.storage) wrote storage),
+            ),
+          )
       ended (Err e) out storage (more, why) = stopped e.side (kind_of e.error) (e.error, out, refl) more why
 
   pub moved_right : (end : End) → Moved (cipher_of (variant_of c.old_algorithm)) (cipher_of (variant_of c.algorithm)) from to end → EndsRight c end

@@ -92,7 +92,7 @@ status_of (answers.Shown report) = 0
 
 -- the text of each answer; none for want of memory
 abbrev pub text_of : Answer → List ℕ
-text_of answers.Usage = codes "usage: raf_tool script | convert | log | demo <n> | file <path>\n"
+text_of answers.Usage = codes "usage: raf_tool script | convert | log | seal <key> <prefix> | unseal <key> | demo <n> | file <path>\n"
 text_of answers.NoDisk = codes "no disk\n"
 text_of answers.ReadFault = []
 text_of answers.Long = codes "script long\n"

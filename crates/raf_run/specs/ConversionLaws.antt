@@ -1,5 +1,5 @@
 -- What holds of conversions: the first cause that refuses one, and what it leaves where there is none (this project's own).
-use Rattle.std.specs.Prelude.{◌≡◌, ◌⊎◌, ◌≢◌, ◌<◌, [], ℕ, zero, suc, ◌+◌, ◌-◌, ◌*◌, min, Bool, true, false, not, ◌&&◌, if◌then◌else◌, nat_lt, nat_le, List, length, take, Option, Some, None, Ok, ⊤}
+use Rattle.std.specs.Prelude.{◌≡◌, ◌⊎◌, ◌≢◌, ◌<◌, [], ℕ, zero, suc, ◌+◌, ◌-◌, ◌*◌, min, Bool, true, false, not, ◌&&◌, if◌then◌else◌, nat_lt, nat_le, List, length, take, Option, Some, None, Ok}
 use Rattle.raf_format.specs.File.{File, Opens, shape_of, chunk_count, chunk_len}
 use Rattle.raf_format.specs.Version.{version_number}
 use Rattle.raf_format.specs.declared.header.Header.{Header}
@@ -26,7 +26,8 @@ is_want _ = false
 -- the random bytes that a write asks which puts so many bytes at the end of a file: a nonce for each chunk that it touches
 abbrev pub asked_at : ℕ → ℕ → ℕ → ℕ → ℕ
 asked_at nonce_len chunk_size end len =
-    sum_where (λ i. meets (i * chunk_size) (chunk_len chunk_size (end + len) i) end (end + len)) (λ _. nonce_len) 0 (chunk_count chunk_size (end + len))
+    sum_where (λ i. meets (i * chunk_size) (chunk_len chunk_size (end + len) i) end (end + len)) (λ _. nonce_len) 0
+    (chunk_count chunk_size (end + len))
 
 -- The first cause among n pieces of a file, from an offset on, that are moved to a file with such nonces and chunks while so many random
 -- bytes are left: a chunk that the piece meets is missing, or fewer random bytes are left than its write asks.
@@ -92,15 +93,17 @@ abbrev pub Converts : Type 0
 Converts = (c : Conversion) (end : End) → EndsConverted c end
     → (memory_status end.outcome ≡ 7) ⊎ ((v : Option ErrorKind) × Verdict c v × Follows c v end)
 
--- random bytes weren't wanting for a piece
-abbrev pub HasEnough : Conversion → End → Type 0
-HasEnough c end = RefusedBy Rng end → length c.random < 32
-
--- where none is, what is written is one function of the content, with status 3 too
-abbrev pub OneConversion : Type 0
-OneConversion = (c : Conversion) (e f : End) → EndsConverted c e → EndsConverted c f → memory_status e.outcome ≢ 7 → memory_status f.outcome ≢ 7
-    → HasEnough c e → HasEnough c f → (memory_status e.outcome ≡ memory_status f.outcome) × (end_text e ≡ end_text f)
-
 -- and there is one verdict alone
 abbrev pub OneVerdict : Type 0
 OneVerdict = (c : Conversion) (v w : Option ErrorKind) → Verdict c v → Verdict c w → v ≡ w
+
+-- the conversion wasn't refused for want of random bytes, or there were too few for the id
+abbrev pub HasEnough : Conversion → End → Type 0
+HasEnough c end = RefusedBy Rng end → length c.random < 32
+
+-- So what is written of such a conversion is one function of its content, with status 3 too. What a piece leaves that was cut short for
+-- want of random bytes isn't told.
+abbrev pub OneConversion : Type 0
+OneConversion = (c : Conversion) (e f : End) → EndsConverted c e → EndsConverted c f
+    → memory_status e.outcome ≢ 7 → memory_status f.outcome ≢ 7 → HasEnough c e → HasEnough c f
+    → (memory_status e.outcome ≡ memory_status f.outcome) × (end_text e ≡ end_text f)

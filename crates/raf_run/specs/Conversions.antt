@@ -1,5 +1,5 @@
 -- How a conversion may end (this project's own).
-use Rattle.std.specs.Prelude.{◌≡◌, ◌⊎◌, [], ℕ, List, Option, Some, None, Result, Ok, Err}
+use Rattle.std.specs.Prelude.{◌≡◌, ◌⊎◌, [], ℕ, List, Some, None, Result, Ok, Err}
 use Rattle.aegis_core.specs.declared.variant.Variant.{Variant}
 use Rattle.raf_format.specs.Cipher.{Cipher, cipher_of}
 use Rattle.raf_format.specs.Numbers.{variant_of}

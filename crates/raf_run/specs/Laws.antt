@@ -1,5 +1,5 @@
 -- What holds of runs of scripts (this project's own).
-use Rattle.std.specs.Prelude.{◌≡◌, ◌⊎◌, ◌↔◌, ℕ, ◌^◌, ◌<◌, ◌≤◌, ◌-◌, List, length, take, drop, Some, Result, Ok, Err, is_some, true, slice_get}
+use Rattle.std.specs.Prelude.{◌≡◌, ◌⊎◌, ℕ, ◌^◌, ◌<◌, ◌≤◌, ◌-◌, List, length, take, drop, Some, Result, Ok, Err, is_some, true, slice_get}
 use Rattle.counts.specs.Counts.{Rose}
 use Rattle.raf_format.specs.Header.{sealed_header}
 use Rattle.raf_format.specs.File.{File, IsFile, Opens, file_of, chunk_count}

@@ -10,6 +10,10 @@ use Rattle.raf_script.specs.Conversion.{ReadsConversion}
 use Rattle.raf_script.specs.LogScript.{ReadsLog}
 use Rattle.raf_script.specs.declared.log_script.LogScript.{LogScript}
 use Rattle.raf_script.specs.declared.conversion.Conversion.{Conversion}
+use Rattle.seal_run.specs.Ends.{status_of as stream_status}
+use Rattle.seal_run.specs.Sealing.{Seals}
+use Rattle.seal_run.specs.Unsealing.{Unseals}
+use Rattle.seal_run.specs.declared.ends.StreamEnd.{StreamEnd}
 use Rattle.raf_run.specs.Answers.{Answers, IsUnread, HasRead, WhyUnread}
 use Rattle.raf_run.specs.Disk.{Disk}
 use Rattle.raf_run.specs.Ends.{Ends, EndsInMemory}
@@ -82,6 +86,16 @@ module _ {D : Type 0} (d : Disks D) (i : Intake) where
   FileDue (answers.Filed outcome) = IsFiled outcome
   FileDue a = IsSome d.disk × WhyUnread (Reads medium.Disk) i a × IsKept d
 
+-- ---- streams
+
+-- `seal`: the bytes of the source are sealed as one stream, as they come
+abbrev pub RunsSeal : List ℕ → List ℕ → Intake → Output → ℕ → Type 0
+RunsSeal key prefix i o status = (end : StreamEnd) × Seals key prefix i o end × (status ≡ stream_status end)
+
+-- `unseal`: the stream that the source holds is opened, as it comes
+abbrev pub RunsUnseal : List ℕ → Intake → Output → ℕ → Type 0
+RunsUnseal key i o status = (end : StreamEnd) × Unseals key i o end × (status ≡ stream_status end)
+
 -- ---- all words
 
 -- what a run does, by the form of its words. Only `file` touches the disk
@@ -90,9 +104,13 @@ RunsBy None i d o status = Answers (UsageDue i) o status × IsKept d
 RunsBy (Some forms.Script) i d o status = Answers (ScriptDue i) o status × IsKept d
 RunsBy (Some forms.Convert) i d o status = Answers (ConvertDue i) o status × IsKept d
 RunsBy (Some forms.Log) i d o status = Answers (LogDue i) o status × IsKept d
+RunsBy (Some (forms.Seal key prefix)) i d o status = RunsSeal key prefix i o status × IsKept d
+RunsBy (Some (forms.Unseal key)) i d o status = RunsUnseal key i o status × IsKept d
 RunsBy (Some (forms.Demo n)) i d o status = Answers (DemoDue n i) o status × IsKept d
 RunsBy (Some forms.File) i d o status = Answers (FileDue d i) o status
 
--- the most bytes that a run makes use of, by the form of its words
+-- the most bytes that a run makes use of: those of a stream, or of a text
 abbrev pub most_of : Option Form → ℕ
+most_of (Some (forms.Seal key prefix)) = 2 ^ 40
+most_of (Some (forms.Unseal key)) = 2 ^ 40
 most_of form = 2 ^ 26

@@ -1,4 +1,4 @@
-//! What the program does, as a library: words, a script and a disk in, replies and a status out.
+//! What the program does, as a library: words, a source and a disk in, texts and a status out.
 #![tactic(auto)]
 
 mod answer;

@@ -1,4 +1,4 @@
-//! The top call: words, a script and a disk in, replies and a status out.
+//! The top call: words, a source and a disk in, texts and a status out.
 ghost use Rattle.std.specs.Prelude.{◌≡◌, ◌+◌, ◌≤◌, ◌^◌, Some, ℕ};
 ghost use Rattle.program_io.specs.Streams.{ConsumesAtMost, intake_of, output_of};
 ghost use Rattle.raf_run.specs.Answers.{Told};
@@ -16,12 +16,13 @@ use crate::telling::tell;
 use crate::words::{Form, Words};
 use aegis::raf::RafIo;
 use program_io::{Sink, Source};
+use seal_run::{seal, unseal};
 use std::alloc::Global;
 
 /// How a run ended: its status, and the disk that it was handed.
 #[derive(Drop)]
 pub struct Ran<I> {
-    /// The exit status, 0 to 8, as [`run`] lists them.
+    /// The exit status, 0 to 10, as [`run`] lists them.
     pub status: u8,
     /// The disk that was handed in, if any: as the script's commands leave it, or, where none were run over it, as it came.
     pub disk: Option<I>,
@@ -55,6 +56,14 @@ fn run_form<S: Source, K: Sink, I: RafIo>(
         Some(Form::Script) => end(sink, answer_script(alloc, source), disk),
         Some(Form::Convert) => end(sink, answer_conversion(alloc, source), disk),
         Some(Form::Log) => end(sink, answer_log(alloc, source), disk),
+        Some(Form::Seal { key, prefix }) => {
+            let status = seal(alloc, source, sink, &key, &prefix).status();
+            Ran { status, disk }
+        }
+        Some(Form::Unseal(key)) => {
+            let status = unseal(alloc, source, sink, &key).status();
+            Ran { status, disk }
+        }
         Some(Form::Demo(writes)) => end(sink, answer_demo(alloc, writes), disk),
         Some(Form::File) => match disk {
             Some(io) => {
@@ -66,20 +75,28 @@ fn run_form<S: Source, K: Sink, I: RafIo>(
     }
 }
 
-/// All that the program does. By the word `script` it reads a script from the source to its end, runs its commands over the script's
-/// storage in memory, and writes the replies and the storage to the sink. By `file <path>` it does so over the disk that is handed in,
-/// and writes the replies alone. By `demo <n>` it runs stated commands with so many writes in memory, 0 to 1000, reads nothing, and
-/// writes what they leave. It answers the status, and hands the disk back.
+/// All that the program does, by its words. Each reads the source to its end, but `demo`, and only `file` touches the disk, which is
+/// handed back.
+///
+/// - `script` runs a script's commands over the script's storage in memory, and writes the replies and the storage.
+/// - `convert` moves an old file into a new one in memory, and writes the new one's storage, after the line of a refusal where there
+///   is one. Status 4 never comes.
+/// - `seal <key> <prefix>` seals the bytes of the source as one stream, and `unseal <key>` opens such a stream, as the bytes come.
+///   Key and prefix are 16 and 8 bytes in hex.
+/// - `demo <n>` runs stated commands with so many writes in memory, 0 to 1000, and writes what they leave.
+/// - `file <path>` runs a script's commands over the disk that is handed in, and writes the replies alone.
 ///
 /// | status | where, the first that stands |
 /// |---|---|
 /// | 1 | the words are none of these |
 /// | 8 | `file` and no disk |
 /// | 5 | the source failed |
-/// | 2 | the source has more than 2^26 bytes, or they are no script: the text names the first wrong line |
+/// | 2 | the source has more than 2^26 bytes, or they are not what the word reads: the text names the first wrong line |
 /// | 7 | no memory was found, be it by the program or by a storage in memory, whose fault that is |
-/// | 3 | the file was refused, as it was made or opened |
+/// | 3 | a file was refused, as it was made or opened; a conversion also where it was not moved whole |
 /// | 4 | the last reply is a fault |
+/// | 9 | `unseal`: the source has no stream under this key, or not a whole one |
+/// | 10 | `seal` or `unseal`: the source has more than 2^40 bytes |
 /// | 0 | else |
 /// | 6 | the sink failed, whatever stands above |
 pub fn run<S: Source, K: Sink, I: RafIo>(

@@ -149,7 +149,7 @@ fn put_answer<K: Sink>(sink: &mut K, answer: &Answer) -> Result<(), Failed>
     match answer {
         Answer::Usage => put(
             sink,
-            b"usage: raf_tool script | convert | log | demo <n> | file <path>\n",
+            b"usage: raf_tool script | convert | log | seal <key> <prefix> | unseal <key> | demo <n> | file <path>\n",
         ),
         Answer::NoDisk => put(sink, b"no disk\n"),
         Answer::ReadFault => put(sink, b""),
