@@ -3,3 +3,4 @@ pub mod Grows
 pub mod Known
 pub mod Cuts
 pub mod Sealed
+pub mod Opened
