@@ -4,3 +4,4 @@ pub mod Known
 pub mod Cuts
 pub mod Sealed
 pub mod Opened
+pub mod Unsealed
