@@ -3,7 +3,7 @@ use Rattle.std.proofs.Common.{◌≡◌, ℕ, ◌+◌, ◌<◌, ◌≤◌, true,
 use Rattle.std.proofs.lemmas.List.{take_at, length-take-le}
 use Rattle.std.proofs.Math.Seq.{take-append-add}
 use Rattle.std.specs.Prelude.{IfSome, Result, Ok, Err, OnOk, OnErr, is_err}
-use Rattle.std.specs.Io.KnownBytes.{Appends, Consumes}
+use Rattle.std.specs.Io.KnownBytes.{Appends, Consumes, Keeps}
 use Rattle.program_io.specs.Streams.{AppendsPrefix, ConsumesAtMost}
 use Rattle.program_io.proofs.StreamLemmas.{appends_more, consumes_more}
 
@@ -68,3 +68,16 @@ of_ok (Err e) is h = absurd (apart is)
   where
     apart : false ≡ true → ⊥
     apart e = cc
+
+-- what was taken, and then these bytes, or none where a call failed
+pub taken_bytes : (old mid new : Option (List ℕ)) (bytes p : List ℕ) (most : ℕ) → Consumes old mid bytes → Consumes mid new p → length bytes + length p ≤ most → ConsumesAtMost old new most
+taken_bytes old mid new bytes p most c d le = taken_more old mid new bytes (length p) most c (p, omega arith, d) le
+
+pub taken_kept : (old mid new : Option (List ℕ)) (bytes : List ℕ) (most : ℕ) → Consumes old mid bytes → Keeps mid new → length bytes ≤ most → ConsumesAtMost old new most
+taken_kept old mid new bytes most c k le = (bytes, le, kept old mid new c k)
+  where
+    kept : (a b d : Option (List ℕ)) → Consumes a b bytes → Keeps b d → Consumes a d bytes
+    kept None b d p q = tt
+    kept (Some x) None d p q = absurd p
+    kept (Some x) (Some y) None p q = absurd q
+    kept (Some x) (Some y) (Some z) p q = p ∙ ap (λ (l : List ℕ). bytes ++ l) (sym q)

@@ -3,3 +3,5 @@ pub mod Grows
 pub mod Known
 pub mod Cuts
 pub mod Sealed
+pub mod Opened
+pub mod Unsealed

@@ -109,7 +109,9 @@ fn open_piece<K: Sink>(
         let Ok(fed) = opener.feed(&piece[at..], message) else {
             return Err(StreamEnd::NotAStream);
         };
-        if write_whole(sink, &message[..fed.written]).is_err() {
+        // No clause of `feed` says that it fits.
+        let len = fed.written.min(message.len());
+        if write_whole(sink, &message[..len]).is_err() {
             return Err(StreamEnd::WriteFault);
         }
         at += fed.taken;
