@@ -1,8 +1,11 @@
 -- How bytes are cut into pieces.
-use Rattle.std.proofs.Common.{◌≡◌, ℕ, zero, suc, ◌+◌, ◌/◌, ◌<◌, ◌≤◌, Bool, true, List, [], ◌∷◌, ◌++◌, length, take, drop, refl, sym, ap, ◌∙◌, subst, arith, length-append, length-take, length-drop, take-append-drop, append-nil}
+use Rattle.std.proofs.Common.{◌≡◌, ℕ, zero, suc, ◌+◌, ◌*◌, ◌/◌, ◌<◌, ◌≤◌, Bool, true, false, List, [], ◌∷◌, ◌++◌, length, take, drop, refl, sym, ap, ◌∙◌, subst, arith, length-append, length-take, length-drop, take-append-drop, append-nil}
 use Rattle.std.proofs.lemmas.List.{take_at, drop_at, length-take-le}
 use Rattle.std.specs.List.{concat}
-use Rattle.aegis_stream.specs.Spell.{AreMessages}
+use Rattle.std.specs.Prelude.{IsTrue, ◌&&◌, ◌||◌, nat_le, nat_lt}
+use Rattle.std.proofs.lemmas.Bool.Decides.{nat_tests}
+use Rattle.aegis_stream.specs.Grammar.{is_message_len}
+use Rattle.aegis_stream.specs.Spell.{is_last, AreMessages}
 use Rattle.seal_run.specs.Pieces.{cut, pieces}
 
 -- few bytes are one piece
@@ -35,3 +38,26 @@ cut_all (suc n) b = ap (λ (l : List ℕ). take 65536 b ++ l) (cut_all n (drop 6
 pub pieces_all : (b : List ℕ) → concat (pieces b) ≡ b
 unfolding pieces
 pieces_all b = cut_all (length b / 65536) b
+
+-- they are messages of a stream
+fits_last : (n : ℕ) → n < 65536 → IsTrue (is_message_len true n)
+fits_last n few = grind (arith, nat_tests)
+
+are_cut : (n : ℕ) (b : List ℕ) → 65536 * n ≤ length b → length b < 65536 * n + 65536 → AreMessages (cut n b)
+are_cut zero b low high = (fits_last (length b) (omega arith), tt)
+are_cut (suc n) b low high =
+    let len : length (take 65536 b) ≡ 65536 = length-take-le 65536 b (omega arith) in (
+      fits (is_last true (cut n (drop 65536 b))) (length (take 65536 b)) (never n (drop 65536 b)) len,
+      are_cut n (drop 65536 b) (omega (arith, low, length-drop 65536 b)) (omega (arith, high, low, length-drop 65536 b)),
+    )
+  where
+    never : (n : ℕ) (b : List ℕ) → is_last true (cut n b) ≡ false
+    never zero b = refl
+    never (suc n) b = refl
+
+    fits : (last : Bool) (n : ℕ) → last ≡ false → n ≡ 65536 → IsTrue (is_message_len last n)
+    fits last n e len = subst (λ (k : ℕ). IsTrue (is_message_len last k)) (sym len) (subst (λ (b : Bool). IsTrue (is_message_len b 65536)) (sym e) refl)
+
+pub are_pieces : (b : List ℕ) → AreMessages (pieces b)
+unfolding pieces
+are_pieces b = are_cut (length b / 65536) b (omega arith) (omega arith)

@@ -5,3 +5,4 @@ pub mod Cuts
 pub mod Sealed
 pub mod Opened
 pub mod Unsealed
+pub mod Backs

@@ -3,3 +3,4 @@ pub mod Ends
 pub mod Sealing
 pub mod Unsealing
 pub mod Steps
+pub mod Laws

@@ -3,9 +3,11 @@
 
 mod ends;
 mod filling;
+mod laws;
 mod sealing;
 mod unsealing;
 
 pub use ends::StreamEnd;
+pub use laws::seal_then_unseal;
 pub use sealing::seal;
 pub use unsealing::unseal;
