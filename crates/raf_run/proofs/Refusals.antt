@@ -92,4 +92,3 @@ module _ (c : Conversion) (F : File) (opens : Opens (old_ground c).cipher c.old_
               let short : nat_lt (length c.random) 32 ≡ true = grind (arith, nat_tests) in
               let is : refusal c F ≡ Some Rng = rw (size_is c.chunk_size (subst IsChunkSize maker.chunk_size p.1), short) refl in
               inr (F, opens, ap (λ (k : ErrorKind). Some k) p.0 ∙ sym is)
-

@@ -89,13 +89,7 @@ fn log_replies_status(replies: &LogReplies) -> u8
     ensures { result ≡ spec.log_last_status (slice_get replies.now (length replies.now - 1)) }
 {
     match replies.get(replies.len().saturating_sub(1)) {
-        Some(reply) if reply.is_fault() => {
-            if is_log_io(reply) {
-                7
-            } else {
-                4
-            }
-        }
+        Some(reply) if reply.is_fault() => { if is_log_io(reply) { 7 } else { 4 } }
         _ => 0,
     }
 }
