@@ -81,6 +81,7 @@ fn run_form<S: Source, K: Sink, I: RafIo>(
 /// - `script` runs a script's commands over the script's storage in memory, and writes the replies and the storage.
 /// - `convert` moves an old file into a new one in memory, and writes the new one's storage, after the line of a refusal where there
 ///   is one. Status 4 never comes.
+/// - `log` runs the commands of a log over a storage in memory, and writes the replies and the storage.
 /// - `seal <key> <prefix>` seals the bytes of the source as one stream, and `unseal <key>` opens such a stream, as the bytes come.
 ///   Key and prefix are 16 and 8 bytes in hex.
 /// - `demo <n>` runs stated commands with so many writes in memory, 0 to 1000, and writes what they leave.
