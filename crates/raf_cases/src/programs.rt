@@ -3,8 +3,8 @@ ghost use Rattle.std.specs.Prelude.{Some};
 
 use crate::report::Report;
 use crate::words::{Fault, data, number, numbers};
-use raf::MemIo;
 use program_io::{Failed, Sink, Source, VecSink, VecSource};
+use raf::MemIo;
 use raf_run::{Ran, Words, run};
 use std::alloc::{AllocError, Global};
 use std::mem;
@@ -94,6 +94,7 @@ impl Program {
             ["fail-read", calls @ ..] => self.fail_read = numbers(alloc, calls)?,
             ["fail-write", calls @ ..] => self.fail_write = numbers(alloc, calls)?,
             ["by-byte"] => self.by_byte = true,
+            ["source", word] => self.script = data(alloc, word)?,
             ["spaces", count] => {
                 self.script = Vec::from_elem(alloc, b' ', number(count)? as usize)?;
             }
