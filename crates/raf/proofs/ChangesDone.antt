@@ -22,7 +22,7 @@ use Rattle.raf.specs.declared.planning.Plan.{Plan}
 use Rattle.raf.specs.declared.command.Command.{Command}
 use Rattle.raf.specs.declared.command.Reply.{Reply}
 use Rattle.raf_format.specs.declared.header.Header.{Header}
-use Rattle.raf.proofs.StillSteps.{may_change}
+use Rattle.raf.proofs.StillSteps.{may_change, change_uncommitted}
 use Rattle.raf.proofs.Arms.{with_chunks, arm_done, kept_there}
 use Rattle.raf.proofs.Amounts.{asked_is, touched_is, size_is}
 use Rattle.raf.proofs.ChangeBounds.{limit_by, accepted, bounded_done}
@@ -144,6 +144,7 @@ module _ (C : Cipher) (lawful : IsLawful C) (E : List ℕ → Hashing) (laws : (
           (bounded_done C h c K done ready.alters ready.calm ready.least ready.ranged old.tree [] ready.fits old.outside new.outside refl moved hashed)
     ];
     strays = strays;
+    committed = change_uncommitted E old c done ready.alters.kind;
     marked = record { sets = λ may refused began. absurd (false≢true (sym ready.answered ∙ refused)); cause = λ set. absurd (false≢true (sym unmarked ∙ set)); calmly = λ set. absurd (false≢true (sym unmarked ∙ set)) };
     stays = record {
       key = key;
@@ -153,7 +154,10 @@ module _ (C : Cipher) (lawful : IsLawful C) (E : List ℕ → Hashing) (laws : (
         | inl still ↦ absurd (false≢true (sym still ∙ marks c ready.alters.kind))
         | inr refused ↦ absurd (false≢true (sym ready.answered ∙ refused.0))
       ];
-      durable = λ still. absurd (false≢true (sym still ∙ settles c ready.alters.kind));
+      durable = λ calm. elim calm [
+        | inl still ↦ absurd (false≢true (sym still ∙ settles c ready.alters.kind))
+        | inr refused ↦ absurd (false≢true (sym ready.answered ∙ refused.1))
+      ];
       synced = λ is. absurd (false≢true (sym (ap may_change is) ∙ ready.alters.kind));
     };
   }

@@ -30,7 +30,7 @@ use Rattle.raf_io.specs.declared.errors.Error.{Error}
 use Rattle.raf_io.specs.declared.errors.ErrorKind.{ErrorKind}
 use Rattle.raf_io.specs.declared.errors.ErrorKind.TheVariants.{Io, InvalidArgument, AuthenticationFailed, AlreadyExists, NotFound, Overflow, MerkleNotEnabled, CorruptedChunk, Rng, Hash, Broken, OutOfMemory}
 use Rattle.raf_format.specs.declared.header.Header.{Header}
-use Rattle.raf.proofs.StillSteps.{may_change}
+use Rattle.raf.proofs.StillSteps.{may_change, change_uncommitted}
 use Rattle.raf.proofs.Moves.{takes_none}
 use Rattle.raf.proofs.Needed.{sum_within}
 use Rattle.raf.proofs.Arms.{with_chunks, fits_is, needed_is, arm_done, arm_missing, misses_one, one_misses}
@@ -123,6 +123,12 @@ module _ (C : Cipher) (lawful : IsLawful C) (E : List ℕ → Hashing) (old new 
   unmoved unmarked = elim changing.stopped [
     | inl began ↦ absurd (false≢true (sym unmarked ∙ began.0))
     | inr not ↦ (not.1, not.2, not.3, not.5)
+  ]
+
+  undurable : new.broken ≡ false → new.outside.durable ≡ old.outside.durable
+  undurable unmarked = elim changing.stopped [
+    | inl began ↦ absurd (false≢true (sym unmarked ∙ began.0))
+    | inr not ↦ not.4
   ]
 
   -- where a chunk that is needed is missing, nothing was begun
@@ -319,6 +325,7 @@ module _ (C : Cipher) (lawful : IsLawful C) (E : List ℕ → Hashing) (old new 
           (bounded_done C h c K done ready.alters ready.calm ready.least ready.ranged old.tree [] ready.fits old.outside new.outside refl changing.moved changing.hashed)
     ];
     strays = λ F held. changing.strays held.bytes held.tells (omega (arith, held.is_file.length_fits));
+    committed = change_uncommitted E old c (reply.Refused kind) ready.alters.kind;
     marked = record {
       sets = λ may refused began. elim changing.stopped [
         | inl stopped ↦ stopped.0
@@ -342,7 +349,10 @@ module _ (C : Cipher) (lawful : IsLawful C) (E : List ℕ → Hashing) (old new 
         | inl still ↦ absurd (false≢true (sym still ∙ marks c ready.alters.kind))
         | inr refused ↦ let u = unmoved refused.1 in (u.2, u.3)
       ];
-      durable = λ still. absurd (false≢true (sym still ∙ settles c ready.alters.kind));
+      durable = λ calm. elim calm [
+        | inl still ↦ absurd (false≢true (sym still ∙ settles c ready.alters.kind))
+        | inr refused ↦ undurable refused.2
+      ];
       synced = λ is. absurd (false≢true (sym (ap may_change is) ∙ ready.alters.kind));
     };
   }

@@ -15,11 +15,11 @@ use Rattle.raf.specs.Due.{Due, Answers, is_fault}
 use Rattle.raf.specs.Due.Due.{Exactly}
 use Rattle.raf.specs.Apply.{apply, answer, changed, cause_of}
 use Rattle.raf.specs.Outside.{Outside}
-use Rattle.raf.specs.Handle.{Handle, Holds, WithTree, OfTree, Grown, KeptAnswer, limit_of, hash_len_of}
+use Rattle.raf.specs.Handle.{Handle, Holds, OfTree, KeptAnswer, limit_of, hash_len_of}
 use Rattle.raf.specs.Stepped.{Stepped, Went, Failed, refuses}
 use Rattle.raf.specs.Opening.{Settings, Room, CanMake, IsFree, NotOpened, NotMade, WhyNoTree, WhyNotOpened, WhyNotRead, WhyNotMade, WhyNotLaidOut, RefusalFault}
 use Rattle.raf.specs.Session.{Ground, AllAnswer, Meets, Answered, Whole, Faulted, TreeDecides, tree_reply, Refusal, room_total}
-use Rattle.raf.specs.Complete.{NoneFailed, AllValid, none_refused, CanOpen, Complete}
+use Rattle.raf.specs.Complete.{NoneFailed, AllServed, CanOpen, Complete}
 use Rattle.raf_io.specs.Kinds.{kind_of}
 use Rattle.raf.specs.declared.command.Command.{Command}
 use Rattle.raf.specs.declared.command.Command.TheVariants as command
@@ -29,7 +29,6 @@ use Rattle.raf_io.specs.declared.errors.Error.{Error}
 use Rattle.raf_io.specs.declared.errors.ErrorKind.{ErrorKind}
 use Rattle.raf_io.specs.declared.errors.ErrorKind.TheVariants.{Io, InvalidArgument, AuthenticationFailed, AlreadyExists, NotFound, Overflow, MerkleNotEnabled, CorruptedChunk, Rng, Hash, Broken, OutOfMemory}
 use Rattle.raf_io.specs.declared.errors.Reason.TheVariants as reason
-use Rattle.raf.proofs.Decided.{all_present}
 
 -- a reply that is due to a valid command is no refusal, where the tree's isn't
 answered_is : (P : Reply → Type 0) (F : File) (c : Command) (r : Reply) → ((r : Reply) → P r → refuses r ≡ false) → Answers P (answer F c) r → refuses r ≡ false
@@ -45,9 +44,10 @@ answered_is P F command.Commitment r tree is = tree r is
 valid_is : (limit : Option ℕ) (F : File) (c : Command) → valid limit F c ≡ true → (apply limit F c).0 ≡ answer F c
 valid_is limit F c v = ap (λ (t : Bool). (cond {A = Due × File} t (answer F c, changed F c) (Exactly (Refused (cause_of limit F c)), F)).0) v
 
--- the kept tree refuses nothing where no chunk is missing
-kept_calm : (F : File) (c : Command) (H : Hashing) (t : Tree) (r : Reply) → none_missing (λ _. true) 0 F.chunks ≡ true → KeptAnswer F c r H t → refuses r ≡ false
-kept_calm F command.Rebuild H t r all is = ap refuses is ∙ ap (λ (t : Bool). refuses (cond t Done (Refused AuthenticationFailed))) all
+-- the kept tree refuses nothing but to be made anew where a chunk is missing
+kept_calm : (F : File) (c : Command) (H : Hashing) (t : Tree) (r : Reply) → (c ≡ command.Rebuild → none_missing (λ _. true) 0 F.chunks ≡ true)
+    → KeptAnswer F c r H t → refuses r ≡ false
+kept_calm F command.Rebuild H t r all is = ap refuses is ∙ ap (λ (t : Bool). refuses (cond t Done (Refused AuthenticationFailed))) (all refl)
 kept_calm F command.Verify H t r all (found, is, bad) = ap refuses is
 kept_calm F command.Commitment H t r all is = ap refuses is
 kept_calm F (command.Read offset len) H t r all is = absurd is
@@ -57,16 +57,14 @@ kept_calm F command.Size H t r all is = absurd is
 kept_calm F command.Sync H t r all is = absurd is
 
 call_is : (C : Cipher) (E : List ℕ → Hashing) (old new : Handle) (F : File) (c : Command) (reply : Reply) → Stepped C E old new c reply → old.broken ≡ false → Holds C old F
-    → WithTree E old (Grown F) → valid (limit_of old) F c ≡ true → NoneFailed old.outside new.outside → refuses reply ≡ false
-call_is C E old new F c reply stepped unmarked held grown v none = go (is_fault reply) refl
+    → (c ≡ command.Rebuild → none_missing (λ _. true) 0 F.chunks ≡ true) → valid (limit_of old) F c ≡ true → NoneFailed old.outside new.outside → refuses reply ≡ false
+call_is C E old new F c reply stepped unmarked held whole v none = go (is_fault reply) refl
   where
     went : Went C E old new c reply
     went = stepped.went unmarked
 
     tree : (r : Reply) → OfTree E old (KeptAnswer F c r) → refuses r ≡ false
-    tree r (s, t, set, kept, is) =
-        let g : Grown F (E s) t = grown s t set kept in
-        kept_calm F c (E s) t r (ap (λ (l : List (Option (List ℕ))). none_missing (λ _. true) 0 l) g.present ∙ all_present 0 g.chunks) is
+    tree r (s, t, set, kept, is) = kept_calm F c (E s) t r whole is
 
     go : (f : Bool) → is_fault reply ≡ f → refuses reply ≡ false
     go true fault = let failed : Failed C old new c reply = went.failed fault in absurd (none failed.kind failed.cause)
@@ -219,21 +217,22 @@ decides_calm E None limit F c r is = absurd is
 decides_calm E (Some s) None F c r is = absurd is
 decides_calm E (Some s) (Some most) F c r is = ap refuses is ∙ tree_calm (E s) most F c
 
-all_served : (G : Ground) (F : File) (commands : List Command) (replies : List Reply) → AllAnswer G F commands replies → AllValid G.limit F commands → none_refused replies ≡ true
-all_served G F [] [] all v = refl
-all_served G F [] (r ∷ replies) all v = absurd all
-all_served G F (c ∷ commands) [] all v = absurd all
-all_served G F (c ∷ commands) (r ∷ replies) (is, all) (v, more) =
-    let calm : refuses r ≡ false = answered_is (TreeDecides G.answers G.setting G.limit F c) F c r (decides_calm G.answers G.setting G.limit F c)
-    (subst (λ (d : Due). Answers (TreeDecides G.answers G.setting G.limit F c) d r) (valid_is G.limit F c v) is) in
-    ap (λ (t : Bool). not t && none_refused replies) calm ∙ all_served G (apply G.limit F c).1 commands replies all more
+all_served : (G : Ground) (F : File) (commands : List Command) (replies : List Reply) → AllAnswer G F commands replies → AllServed G.limit F commands replies
+all_served G F [] [] all = tt
+all_served G F [] (r ∷ replies) all = tt
+all_served G F (c ∷ commands) [] all = tt
+all_served G F (c ∷ commands) (r ∷ replies) (is, all) = (
+  λ v. answered_is (TreeDecides G.answers G.setting G.limit F c) F c r (decides_calm G.answers G.setting G.limit F c)
+      (subst (λ (d : Due). Answers (TreeDecides G.answers G.setting G.limit F c) d r) (valid_is G.limit F c v) is),
+  all_served G (apply G.limit F c).1 commands replies all,
+)
 
 session_is : (C : Cipher) (lawful : AreLawful C) (E : List ℕ → Hashing) (key b : List ℕ) (F : File) (s : Settings) (commands : List Command) (before after : Outside)
     (outcome : Result (List Reply) Error) → Meets C E key s commands before after outcome → before.setting ≡ s.outside.setting → before.bytes ≡ Some b
     → CanOpen C E key before.setting s.most b F → room_total (hash_len_of E s.outside.setting) commands < 2 ^ 64 → NoneFailed before after
     → IfErr outcome (λ e. kind_of e ≡ OutOfMemory)
     × IfOk outcome (λ replies. AllAnswer (record { cipher = C; answers = E; setting = s.outside.setting; limit = s.most; key = key }) F commands replies
-    × (AllValid s.most F commands → none_refused replies ≡ true))
+    × AllServed s.most F commands replies)
 session_is C lawful E key b F s commands before after (Err e) meets set tells can fits none = (go meets.refused, tt)
   where
     go : Refusal C E key s commands before after (kind_of e) → kind_of e ≡ OutOfMemory

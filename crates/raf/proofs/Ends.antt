@@ -161,7 +161,7 @@ module _ (C : Cipher) (lawful : IsLawful C) (E : List ℕ → Hashing) (old : Ha
               bytes = cut.bytes;
               tells = cut.tells;
               settled = λ was quiet. λ x d bytes_are durable_is.
-                  s.settled was x d (s.holds.tells ∙ ap (λ (l : List ℕ). Some l) (sym (cut.spares.untouched (no_change F' c quiet))) ∙ sym cut.tells ∙ bytes_are) (sym (went.stays.durable quiet) ∙ durable_is);
+                  s.settled was x d (s.holds.tells ∙ ap (λ (l : List ℕ). Some l) (sym (cut.spares.untouched (no_change F' c quiet))) ∙ sym cut.tells ∙ bytes_are) (sym (went.stays.durable (inl quiet)) ∙ durable_is);
               spares = subst (λ (l : List ℕ). Spares F' c l cut.bytes) bytes cut.spares;
             });
             moved =

@@ -262,7 +262,7 @@ module _ (C : Cipher) (E : List ℕ → Hashing) (K : List ℕ) (h : Header) (a 
       grown = λ b tells. tt;
       missing = λ b tells auth. absurd (other (sym why.0 ∙ auth));
       kinds = subst (λ (k : ErrorKind). Ungrown k a r) (sym why.0) (caused_later Hash a p r all.quiet why.1);
-      some = λ io. absurd (not_io (sym why.0 ∙ io));
+      some = λ other. absurd (other why.0);
       quiet = tt;
       shapes = shapes_then before tree tree' all.shapes shapes;
       kept = kept_then a p r all.kept kept_r;

@@ -1,10 +1,13 @@
 -- What is read of a header, and what follows for the whole storage.
-use Rattle.std.proofs.Common.{◌≡◌, ℕ, List, length, take, drop, Option, Some, sym, ◌∙◌, ap, subst, arith, length-take}
+use Rattle.std.proofs.Common.{◌≡◌, inl, inr, ℕ, ◌≤◌, ◌<◌, ◌^◌, List, length, take, drop, Option, Some, sym, ◌∙◌, ap, subst, arith, length-take}
 use Rattle.std.proofs.lemmas.List.{take-take, drop-take}
+use Rattle.std.specs.Prelude.{◌⊎◌}
 use Rattle.raf_io.specs.Storage.{ReadsFrom}
+use Rattle.raf_format.specs.Version.{IsVersion}
 use Rattle.raf_format.specs.Cipher.{Cipher}
-use Rattle.raf.specs.Loaded.{Front}
-use Rattle.raf_format.specs.Header.{Says, Tagged, header_tag, between}
+use Rattle.raf.specs.Loaded.{Front, Sound}
+use Rattle.raf_format.specs.File.{shape_of, layout_len}
+use Rattle.raf_format.specs.Header.{InRange, Says, Tagged, header_tag, between}
 use Rattle.raf_format.specs.declared.header.Header.{Header}
 
 -- the first 96 bytes of what is told
@@ -39,3 +42,13 @@ tagged_front C key b got f tagged = tag_same b got f ∙ tagged ∙ ap (header_t
 
 pub tagged_whole : (C : Cipher) (key b got : List ℕ) → Front b got → Tagged C key got → Tagged C key b
 tagged_whole C key b got f tagged = sym (tag_same b got f) ∙ tagged ∙ ap (header_tag C key) (head_same b got f)
+
+-- the numbers of the two versions
+pub version_range : (n : ℕ) → IsVersion n → (1 ≤ n) × (n ≤ 2)
+version_range n (inl one) = (omega (arith, one), omega (arith, one))
+version_range n (inr two) = (omega (arith, two), omega (arith, two))
+
+pub in_range_sound : (C : Cipher) (h : Header) → InRange h → h.algorithm ≡ C.id → layout_len (shape_of C h) h.file_size < 2 ^ 64 → Sound C h
+in_range_sound C h range algorithm below =
+    let v = version_range h.version range.version in
+    record { version_least = v.0; version_most = v.1; algorithm = algorithm; least = range.least; most = range.most; below = below }

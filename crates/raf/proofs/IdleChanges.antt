@@ -19,7 +19,7 @@ use Rattle.raf.specs.declared.command.Reply.TheVariants.{Refused}
 use Rattle.raf_io.specs.declared.errors.ErrorKind.{ErrorKind}
 use Rattle.raf_io.specs.declared.errors.ErrorKind.TheVariants.{AuthenticationFailed, Overflow, MerkleNotEnabled}
 use Rattle.raf_format.specs.declared.header.Header.{Header}
-use Rattle.raf.proofs.StillSteps.{may_change, sum_none}
+use Rattle.raf.proofs.StillSteps.{may_change, change_uncommitted, sum_none}
 use Rattle.raf.proofs.Moves.{takes_none, moved_any, moved_same, quiet_same}
 use Rattle.raf.proofs.Arms.{Alters, with_chunks, arm_overflow, needed_by, no_merkle}
 use Rattle.raf.proofs.ReadyChanges.{authentic_by, shaped_by}
@@ -55,6 +55,7 @@ module _ (C : Cipher) (E : List ℕ → Hashing) (old : Handle) (c : Command) (r
     shaped = λ _. shaped_by (limit_of old) (outline C old.header) reply c kind (inr (subst (λ (d : Due × File). Answers (HasForm c) d.0 reply) (sym (due [])) refl));
     bounded = λ F measures. moved_any old.outside old.outside _ _ _ _ _ (moved_same old.outside old.outside refl);
     strays = λ F held. refl;
+    committed = change_uncommitted E old c reply kind;
     marked = record { sets = λ may refused began. absurd (elim began [ inl more ↦ omega (arith, more) | inr more ↦ omega (arith, more) ]); cause = λ set. absurd (false≢true (sym unmarked ∙ set)); calmly = λ set. absurd (false≢true (sym unmarked ∙ set)) };
     stays = record {
       key = refl;

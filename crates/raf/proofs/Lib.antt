@@ -80,3 +80,4 @@ pub mod ChunkLooks
 pub mod AllChunks
 pub mod Judged
 pub mod ComparesOn
+pub mod Repairs

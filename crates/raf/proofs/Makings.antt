@@ -27,6 +27,12 @@ use Rattle.raf.proofs.Moves.{moved_less, moved_then, quiet_then, caused_later, t
 use Rattle.raf.proofs.Places.{count_none}
 use Rattle.raf.proofs.Openings.{shapes_limit, shaped_from}
 
+not_hash : Hash ≡ Rng → ⊥
+not_hash is = cc
+
+not_io : Io ≡ Rng → ⊥
+not_io is = cc
+
 pub takes_nothing : (old new : Option (List ℕ)) (n : ℕ) → new ≡ old → TakesAtMost old n new
 takes_nothing old new n same = ([], omega arith, subst (λ (o : Option (List ℕ)). Takes old [] o) (sym same) (takes_none old))
 
@@ -74,6 +80,7 @@ module _ (E : List ℕ → Hashing) (s : Settings) (fresh : Fresh) (max : ℕ) (
     ];
     kept = λ _. (kept.bytes, kept.durable);
     left = takes_nothing old.left p.left 32 kept.left;
+    unhashed = λ _. omega (arith, moved.calls_later, moved.calls_most);
     moved = moved_less old p _ _ _ _ _ 96 96 32 2 1 moved (omega arith) (omega arith) (omega arith) (omega arith) (omega arith);
     strays = strays;
   }
@@ -93,6 +100,7 @@ module _ (E : List ℕ → Hashing) (s : Settings) (fresh : Fresh) (max : ℕ) (
       fault = subst (λ (k : ErrorKind). RefusalFault k old q) (sym why.0) (caused_later Rng old p q quiet_p why.1);
       kept = λ _. (bytes ∙ kept_p.bytes, durable ∙ kept_p.durable);
       left = subst (λ (o : Option (List ℕ)). TakesAtMost o 32 q.left) kept_p.left left;
+      unhashed = λ _. omega (arith, moved_p.calls_later, moved_p.calls_most, moved.calls_later, moved.calls_most);
       moved = moved_less old q _ _ _ _ _ 96 96 32 2 1 (moved_then old p q _ _ _ _ _ _ _ _ _ _ moved_p moved) (omega arith) (omega arith) (omega arith) (omega arith) (omega arith);
       strays = strays ∙ strays_p;
     }
@@ -111,6 +119,7 @@ module _ (E : List ℕ → Hashing) (s : Settings) (fresh : Fresh) (max : ℕ) (
         fault = subst (λ (k : ErrorKind). RefusalFault k old r) (sym why.0) (caused_later Hash old q r (quiet_then old p q quiet_p quiet_q) why.1);
         kept = λ _. (kept.bytes ∙ bytes_q ∙ kept_p.bytes, kept.durable ∙ durable_q ∙ kept_p.durable);
         left = (id, omega (arith, id_len), subst (λ (o : Option (List ℕ)). Takes old.left id o) (sym kept.left) taken);
+        unhashed = λ is. absurd (not_hash (sym why.0 ∙ is));
         moved = moved_less old r _ _ _ _ _ 96 96 32 2 1
             (moved_then old q r _ _ _ _ _ _ _ _ _ _ (moved_then old p q _ _ _ _ _ _ _ _ _ _ moved_p moved_q) moved) (omega arith) (omega arith) (omega arith) (omega arith) (omega (arith, one));
         strays = strays ∙ strays_q ∙ strays_p;
@@ -137,6 +146,7 @@ module _ (E : List ℕ → Hashing) (s : Settings) (fresh : Fresh) (max : ℕ) (
           fault = subst (λ (k : ErrorKind). RefusalFault k old t) (sym why.0) (caused_later Io old r t quiet_qr why.1);
           kept = λ unbegun. absurd (unbegun (why.0, omega (arith, began, moved_qr.changes_later)));
           left = (id, omega (arith, id_len), subst (λ (o : Option (List ℕ)). Takes old.left id o) (sym left) taken_r);
+          unhashed = λ is. absurd (not_io (sym why.0 ∙ is));
           moved = moved_less old t _ _ _ _ _ 96 96 32 2 1 (moved_then old r t _ _ _ _ _ _ _ _ _ _ moved_qr moved) (omega arith) (omega arith) (omega arith) (omega arith) (omega arith);
           strays = strays ∙ strays_r ∙ strays_q ∙ strays_p;
         }

@@ -1,80 +1,169 @@
 -- A run by numbers goes on by a command, over any storage.
-use Rattle.std.proofs.Common.{◌≡◌, inl, inr, Bool, true, false, cond, ◌||◌, ℕ, ◌+◌, ◌≤◌, List, [], ◌∷◌, ◌++◌, Option, refl, sym, ◌∙◌, ap, subst, arith}
+use Rattle.std.proofs.Common.{◌≡◌, inl, inr, Bool, true, false, cond, not, ◌&&◌, ℕ, ◌+◌, ◌≤◌, max, List, [], ◌∷◌, ◌++◌, Option, refl, sym, ◌∙◌, ap, subst, arith}
 use Rattle.std.specs.Prelude.{◌⊎◌}
 use Rattle.std.proofs.lemmas.Bool.{false≢true}
 use Rattle.raf_tree.specs.Hashing.{Hashing}
 use Rattle.raf_format.specs.Cipher.{Cipher}
 use Rattle.raf_format.specs.File.{File}
 use Rattle.raf_format.specs.declared.header.Header.{Header}
-use Rattle.raf.specs.Due.{is_fault}
-use Rattle.raf.specs.Concern.{size_after}
-use Rattle.raf.specs.Image.{asked_by}
+use Rattle.raf.specs.Due.{Due, Answers, is_fault, is_refused}
+use Rattle.raf.specs.Due.Due.{Exactly}
+use Rattle.raf.specs.Apply.{apply, answer, changed, cause_of}
+use Rattle.raf.specs.Concern.{size_after, valid, fits, needed, none_missing}
+use Rattle.raf.specs.Image.{asked_by, changes_by, traffic_by, calls_by}
 use Rattle.raf.specs.Meaning.{Faultable}
 use Rattle.raf.specs.Outside.{Quiet, Moved}
 use Rattle.raf.specs.Handle.{Handle, limit_of, outline}
-use Rattle.raf.specs.Stepped.{Stepped, Went, Shaped, Bounded, refuses, with_size, broken_reply}
-use Rattle.raf.specs.Session.{AllShaped, numbers_after, numbers_in, asked_along, stops}
-use Rattle.raf.specs.Ran.{NumbersSoFar, EndedByNumbers, stopped_by}
+use Rattle.raf.specs.Stepped.{Stepped, Went, Shaped, HasForm, Needs, Bounded, refuses, with_size, broken_reply, broken_at}
+use Rattle.raf.specs.Unseen.{Mark, is_size, says_broken, stops, mark_after, sum_along, ShapedBy, AllShaped, numbers_after, numbers_in, longest_by, longest_along, BoundedAlong}
+use Rattle.raf.specs.Unseen.Mark.{Clear, Unknown, Set}
+use Rattle.raf.specs.Ran.{NumbersSoFar, EndedByNumbers, Knows, mark_in}
 use Rattle.raf.specs.declared.command.Command.{Command}
 use Rattle.raf.specs.declared.command.Command.TheVariants as command
 use Rattle.raf.specs.declared.command.Reply.{Reply}
-use Rattle.raf.specs.declared.command.Reply.TheVariants.{Refused}
-use Rattle.raf_io.specs.declared.errors.ErrorKind.TheVariants.{Broken}
-use Rattle.raf.proofs.Moves.{moved_all, moved_then, moved_less, moved_same, caused_later}
+use Rattle.raf.specs.declared.command.Reply.TheVariants as reply_as
+use Rattle.raf_io.specs.declared.errors.ErrorKind.{ErrorKind}
+use Rattle.raf_io.specs.declared.errors.ErrorKind.TheVariants.{Io, InvalidArgument, AuthenticationFailed, AlreadyExists, NotFound, Overflow, MerkleNotEnabled, CorruptedChunk, Rng, Hash, Broken, OutOfMemory}
+use Rattle.raf.proofs.Moves.{moved_then, moved_less, moved_same, moved_any, caused_later}
 use Rattle.raf.proofs.Sizes.{stepped_shape}
 
-or_right : (x : Bool) → x || true ≡ true
-or_right true = refl
-or_right false = refl
+-- what is put behind commands and their replies
+sum-push : (by : File → Command → ℕ) (limit : Option ℕ) (F : File) (m : Mark) (cs : List Command) (rs : List Reply) (c : Command) (r : Reply) → AllShaped limit m F cs rs
+    → sum_along by F (cs ++ c ∷ []) (rs ++ r ∷ []) ≡ sum_along by F cs rs + by (numbers_in limit F cs rs) c
+sum-push by limit F m [] [] c r all = omega arith
+sum-push by limit F m [] (q ∷ rs) c r all = absurd all
+sum-push by limit F m (d ∷ cs) [] c r all = absurd all
+sum-push by limit F m (d ∷ cs) (q ∷ rs) c r all = omega (arith, sum-push by limit (numbers_after F d q) (mark_after m d q) cs rs c r all.1)
 
-or_left : (x y : Bool) → x ≡ true → x || y ≡ true
-or_left x y is = ap (λ (x : Bool). x || y) is
+-- commands behind those that were answered change nothing
+sum-cut : (by : File → Command → ℕ) (limit : Option ℕ) (F : File) (m : Mark) (cs : List Command) (rs : List Reply) (c : Command) (r : Reply) (rest : List Command) → AllShaped limit m F cs rs
+    → sum_along by F (cs ++ c ∷ rest) (rs ++ r ∷ []) ≡ sum_along by F (cs ++ c ∷ []) (rs ++ r ∷ [])
+sum-cut by limit F m [] [] c r [] all = refl
+sum-cut by limit F m [] [] c r (x ∷ rest) all = refl
+sum-cut by limit F m [] (q ∷ rs) c r rest all = absurd all
+sum-cut by limit F m (d ∷ cs) [] c r rest all = absurd all
+sum-cut by limit F m (d ∷ cs) (q ∷ rs) c r rest all = ap (λ (n : ℕ). by F d + n) (sum-cut by limit (numbers_after F d q) (mark_after m d q) cs rs c r rest all.1)
+
+not_cause : (fit there : Bool) → Broken ≡ cond (not fit) Overflow (cond (not there) AuthenticationFailed MerkleNotEnabled) → ⊥
+not_cause true true is = cc
+not_cause true false is = cc
+not_cause false there is = cc
+
+not_answer : (F : File) (c : Command) → Answers (HasForm c) (answer F c) (reply_as.Refused Broken) → ⊥
+not_answer F (command.Read offset len) is = cc
+not_answer F (command.Write offset bytes) is = cc
+not_answer F (command.Truncate size) is = cc
+not_answer F command.Size is = cc
+not_answer F command.Sync is = cc
+not_answer F command.Rebuild is = is
+not_answer F command.Verify is = cc is.1
+not_answer F command.Commitment is = cc is.1
+
+broken_is : (r : Reply) → says_broken r ≡ true → r ≡ reply_as.Refused Broken
+broken_is (reply_as.Bytes bytes) is = absurd (false≢true is)
+broken_is (reply_as.Wrote n) is = absurd (false≢true is)
+broken_is reply_as.Done is = absurd (false≢true is)
+broken_is (reply_as.Size n) is = absurd (false≢true is)
+broken_is (reply_as.Verified found) is = absurd (false≢true is)
+broken_is (reply_as.Commitment bytes) is = absurd (false≢true is)
+broken_is (reply_as.Refused Io) is = absurd (false≢true is)
+broken_is (reply_as.Refused (InvalidArgument reason)) is = absurd (false≢true is)
+broken_is (reply_as.Refused AuthenticationFailed) is = absurd (false≢true is)
+broken_is (reply_as.Refused AlreadyExists) is = absurd (false≢true is)
+broken_is (reply_as.Refused NotFound) is = absurd (false≢true is)
+broken_is (reply_as.Refused Overflow) is = absurd (false≢true is)
+broken_is (reply_as.Refused MerkleNotEnabled) is = absurd (false≢true is)
+broken_is (reply_as.Refused (CorruptedChunk index)) is = absurd (false≢true is)
+broken_is (reply_as.Refused Rng) is = absurd (false≢true is)
+broken_is (reply_as.Refused Hash) is = absurd (false≢true is)
+broken_is (reply_as.Refused Broken) is = refl
+broken_is (reply_as.Refused OutOfMemory) is = absurd (false≢true is)
+
+-- what is known of a mark after a reply, by its three tests
+known_after : (m : Mark) (c : Command) (r : Reply) (broken : Bool) → (is_size c ≡ true → Knows m broken) → (is_size c ≡ false → says_broken r ≡ true → broken ≡ true)
+    → (is_size c ≡ false → says_broken r ≡ false → stops c r ≡ false → broken ≡ false) → Knows (mark_after m c r) broken
+known_after m c r broken size set clear = go (is_size c) (says_broken r) (stops c r) size set clear
+  where
+    go : (a b s : Bool) → (a ≡ true → Knows m broken) → (a ≡ false → b ≡ true → broken ≡ true) → (a ≡ false → b ≡ false → s ≡ false → broken ≡ false)
+        → Knows (cond a m (cond b Set (cond s Unknown Clear))) broken
+    go true b s size set clear = size refl
+    go false true s size set clear = set refl refl
+    go false false true size set clear = tt
+    go false false false size set clear = clear refl refl refl
 
 module _ (limit : Option ℕ) where
-  shaped-push : (F : File) (s : Bool) (cs : List Command) (rs : List Reply) (c : Command) (r : Reply) → AllShaped limit F s cs rs
-      → Shaped limit (numbers_in limit F cs rs) c r ⊎ ((stopped_by s cs rs ≡ true) × (r ≡ Refused Broken)) → AllShaped limit F s (cs ++ c ∷ []) (rs ++ r ∷ [])
-  shaped-push F s [] [] c r all this = (this, tt)
-  shaped-push F s [] (q ∷ rs) c r all this = absurd all
-  shaped-push F s (d ∷ cs) [] c r all this = absurd all
-  shaped-push F s (d ∷ cs) (q ∷ rs) c r all this = (all.0, shaped-push (numbers_after F d q) (s || stops d q) cs rs c r all.1 this)
+  shaped-push : (F : File) (m : Mark) (cs : List Command) (rs : List Reply) (c : Command) (r : Reply) → AllShaped limit m F cs rs
+      → ShapedBy limit (mark_in m cs rs) (numbers_in limit F cs rs) c r → AllShaped limit m F (cs ++ c ∷ []) (rs ++ r ∷ [])
+  shaped-push F m [] [] c r all this = (this, tt)
+  shaped-push F m [] (q ∷ rs) c r all this = absurd all
+  shaped-push F m (d ∷ cs) [] c r all this = absurd all
+  shaped-push F m (d ∷ cs) (q ∷ rs) c r all this = (all.0, shaped-push (numbers_after F d q) (mark_after m d q) cs rs c r all.1 this)
 
-  numbers-push : (F : File) (s : Bool) (cs : List Command) (rs : List Reply) (c : Command) (r : Reply) → AllShaped limit F s cs rs
+  numbers-push : (F : File) (m : Mark) (cs : List Command) (rs : List Reply) (c : Command) (r : Reply) → AllShaped limit m F cs rs
       → numbers_in limit F (cs ++ c ∷ []) (rs ++ r ∷ []) ≡ numbers_after (numbers_in limit F cs rs) c r
-  numbers-push F s [] [] c r all = refl
-  numbers-push F s [] (q ∷ rs) c r all = absurd all
-  numbers-push F s (d ∷ cs) [] c r all = absurd all
-  numbers-push F s (d ∷ cs) (q ∷ rs) c r all = numbers-push (numbers_after F d q) (s || stops d q) cs rs c r all.1
+  numbers-push F m [] [] c r all = refl
+  numbers-push F m [] (q ∷ rs) c r all = absurd all
+  numbers-push F m (d ∷ cs) [] c r all = absurd all
+  numbers-push F m (d ∷ cs) (q ∷ rs) c r all = numbers-push (numbers_after F d q) (mark_after m d q) cs rs c r all.1
 
-  stopped-push : (F : File) (s : Bool) (cs : List Command) (rs : List Reply) (c : Command) (r : Reply) → AllShaped limit F s cs rs
-      → stopped_by s (cs ++ c ∷ []) (rs ++ r ∷ []) ≡ stopped_by s cs rs || stops c r
-  stopped-push F s [] [] c r all = refl
-  stopped-push F s [] (q ∷ rs) c r all = absurd all
-  stopped-push F s (d ∷ cs) [] c r all = absurd all
-  stopped-push F s (d ∷ cs) (q ∷ rs) c r all = stopped-push (numbers_after F d q) (s || stops d q) cs rs c r all.1
+  mark-push : (F : File) (m : Mark) (cs : List Command) (rs : List Reply) (c : Command) (r : Reply) → AllShaped limit m F cs rs
+      → mark_in m (cs ++ c ∷ []) (rs ++ r ∷ []) ≡ mark_after (mark_in m cs rs) c r
+  mark-push F m [] [] c r all = refl
+  mark-push F m [] (q ∷ rs) c r all = absurd all
+  mark-push F m (d ∷ cs) [] c r all = absurd all
+  mark-push F m (d ∷ cs) (q ∷ rs) c r all = mark-push (numbers_after F d q) (mark_after m d q) cs rs c r all.1
 
-  along-push : (F : File) (s : Bool) (cs : List Command) (rs : List Reply) (c : Command) (r : Reply) → AllShaped limit F s cs rs
-      → asked_along limit F (cs ++ c ∷ []) (rs ++ r ∷ []) ≡ asked_along limit F cs rs + asked_by limit (numbers_in limit F cs rs) c
-  along-push F s [] [] c r all = omega arith
-  along-push F s [] (q ∷ rs) c r all = absurd all
-  along-push F s (d ∷ cs) [] c r all = absurd all
-  along-push F s (d ∷ cs) (q ∷ rs) c r all = omega (arith, along-push (numbers_after F d q) (s || stops d q) cs rs c r all.1)
+  longest-push : (F : File) (m : Mark) (cs : List Command) (rs : List Reply) (c : Command) (r : Reply) → AllShaped limit m F cs rs
+      → longest_along limit F (cs ++ c ∷ []) (rs ++ r ∷ []) ≡ max (longest_along limit F cs rs) (longest_by limit (numbers_in limit F cs rs) c)
+  longest-push F m [] [] c r all = omega arith
+  longest-push F m [] (q ∷ rs) c r all = absurd all
+  longest-push F m (d ∷ cs) [] c r all = absurd all
+  longest-push F m (d ∷ cs) (q ∷ rs) c r all = omega (arith, longest-push (numbers_after F d q) (mark_after m d q) cs rs c r all.1)
 
-  -- commands behind those that were answered change nothing
-  along-cut : (F : File) (s : Bool) (cs : List Command) (rs : List Reply) (c : Command) (r : Reply) (rest : List Command) → AllShaped limit F s cs rs
-      → asked_along limit F (cs ++ c ∷ rest) (rs ++ r ∷ []) ≡ asked_along limit F (cs ++ c ∷ []) (rs ++ r ∷ [])
-  along-cut F s [] [] c r [] all = refl
-  along-cut F s [] [] c r (x ∷ rest) all = refl
-  along-cut F s [] (q ∷ rs) c r rest all = absurd all
-  along-cut F s (d ∷ cs) [] c r rest all = absurd all
-  along-cut F s (d ∷ cs) (q ∷ rs) c r rest all = ap (λ (n : ℕ). asked_by limit F d + n) (along-cut (numbers_after F d q) (s || stops d q) cs rs c r rest all.1)
+  longest-cut : (F : File) (m : Mark) (cs : List Command) (rs : List Reply) (c : Command) (r : Reply) (rest : List Command) → AllShaped limit m F cs rs
+      → longest_along limit F (cs ++ c ∷ rest) (rs ++ r ∷ []) ≡ longest_along limit F (cs ++ c ∷ []) (rs ++ r ∷ [])
+  longest-cut F m [] [] c r [] all = refl
+  longest-cut F m [] [] c r (x ∷ rest) all = refl
+  longest-cut F m [] (q ∷ rs) c r rest all = absurd all
+  longest-cut F m (d ∷ cs) [] c r rest all = absurd all
+  longest-cut F m (d ∷ cs) (q ∷ rs) c r rest all = ap (λ (n : ℕ). max (longest_by limit F d) n) (longest-cut (numbers_after F d q) (mark_after m d q) cs rs c r rest all.1)
+
+  other : (F : File) (c : Command) → Answers (HasForm c) (apply limit F c).0 (reply_as.Refused Broken) → ⊥
+  other F c due = go (valid limit F c) due
+    where
+      go : (v : Bool) → Answers (HasForm c) (cond {A = Due × File} v (answer F c, changed F c) (Exactly (reply_as.Refused (cause_of limit F c)), F)).0 (reply_as.Refused Broken) → ⊥
+      go true due = not_answer F c due
+      go false due = not_cause (fits limit F c) (none_missing (needed F c) 0 F.chunks) (inner due)
+        where
+          inner : {k : ErrorKind} → reply_as.Refused Broken ≡ reply_as.Refused k → Broken ≡ k
+          inner is = cc
+
+  by_size : (F : File) (c : Command) → ((reply_as.Refused Broken ≡ reply_as.Refused AuthenticationFailed) × (fits limit F c ≡ true) × Needs F c) ⊎ Answers (HasForm c) (apply limit F c).0 (reply_as.Refused Broken) → ⊥
+  by_size F c (inl three) = cc three.0
+  by_size F c (inr due) = other F c due
+
+  -- no reply that is due by numbers is `Broken`
+  unbroken : (F : File) (c : Command) → Shaped limit F c (reply_as.Refused Broken) → ⊥
+  unbroken F (command.Read offset len) (inl both) = cc both.0
+  unbroken F (command.Read offset len) (inr (got, is, long)) = cc is
+  unbroken F (command.Write offset bytes) shaped = by_size F (command.Write offset bytes) shaped
+  unbroken F (command.Truncate size) shaped = by_size F (command.Truncate size) shaped
+  unbroken F command.Size shaped = by_size F command.Size shaped
+  unbroken F command.Sync shaped = by_size F command.Sync shaped
+  unbroken F command.Rebuild shaped = go (is_refused (apply limit F command.Rebuild).0) refl
+    where
+      go : (t : Bool) → is_refused (apply limit F command.Rebuild).0 ≡ t → ⊥
+      go true is = cc (shaped.0 is)
+      go false is = elim (shaped.1 is) [ inl finished ↦ cc finished | inr both ↦ cc both.0 ]
+  unbroken F command.Verify shaped = by_size F command.Verify shaped
+  unbroken F command.Commitment shaped = by_size F command.Commitment shaped
 
 pub numbers_none : (C : Cipher) (old : Handle) → old.broken ≡ false → NumbersSoFar C old old [] []
 numbers_none C old unmarked = record {
   shaped = tt;
   outline_is = refl;
-  stopped = λ set. absurd (false≢true (sym unmarked ∙ set));
-  later = moved_all old.outside old.outside _ _ _ _ _ (moved_same old.outside old.outside refl);
-  asked = omega arith;
+  marked = unmarked;
+  moved = moved_same old.outside old.outside refl;
 }
 
 module _ (C : Cipher) (E : List ℕ → Hashing) (old mid new : Handle) (done : List Command) (c : Command) (reply : Reply) (replies : List Reply)
@@ -85,76 +174,92 @@ module _ (C : Cipher) (E : List ℕ → Hashing) (old mid new : Handle) (done : 
   abbrev L : Option ℕ
   L = limit_of old
 
+  -- the numbers that the command finds, and what is known of the mark
+  abbrev N : File
+  N = numbers_in L F done replies
+
+  abbrev M : Mark
+  M = mark_in Clear done replies
+
   -- what was asked, the mark set or not
-  asked_now : (marked : Bool) → mid.broken ≡ marked → Moved mid.outside new.outside new.outside.reach new.outside.traffic (asked_by L (numbers_in L F done replies) c) new.outside.changes new.outside.calls
-  asked_now true set =
-      let same = (stepped.barred set).1 in
-      subst (λ (h : Handle). Moved mid.outside h.outside h.outside.reach h.outside.traffic (asked_by L (numbers_in L F done replies) c) h.outside.changes h.outside.calls) (sym same)
-      (moved_less mid.outside mid.outside _ _ _ _ _ _ _ _ _ _ (moved_same mid.outside mid.outside refl) (omega arith) (omega arith) (omega arith) (omega arith) (omega arith))
-  asked_now false unset =
-      let m = (stepped.went unset).bounded (outline C mid.header) (inr refl) in
-      let asked : asked_by (limit_of mid) (outline C mid.header) c ≡ asked_by L (numbers_in L F done replies) c =
-      ap (λ (l : Option ℕ). asked_by l (outline C mid.header) c) limit ∙ ap (λ (f : File). asked_by L f c) so_far.outline_is in
-      later_of m asked
+  moved_now : (marked : Bool) → mid.broken ≡ marked → Bounded L mid.outside new.outside N c
+  moved_now true set =
+      moved_any mid.outside new.outside _ _ _ _ _ (moved_same mid.outside new.outside (ap (λ (h : Handle). h.outside) (stepped.barred set).1))
+  moved_now false unset =
+      subst (λ (f : File). Bounded L mid.outside new.outside f c) so_far.outline_is
+      (subst (λ (l : Option ℕ). Bounded l mid.outside new.outside (outline C mid.header) c) limit ((stepped.went unset).bounded (outline C mid.header) (inr refl)))
+
+  moved_more : BoundedAlong L F (done ++ c ∷ []) (replies ++ reply ∷ []) old.outside new.outside
+  moved_more = moved_less old.outside new.outside _ _ _ _ _ _ _ _ _ _
+      (moved_then old.outside mid.outside new.outside _ _ _ _ _ _ _ _ _ _ so_far.moved (moved_now mid.broken refl))
+      (omega (arith, longest-push L F Clear done replies c reply so_far.shaped))
+      (omega (arith, sum-push (traffic_by L) L F Clear done replies c reply so_far.shaped))
+      (omega (arith, sum-push (asked_by L) L F Clear done replies c reply so_far.shaped))
+      (omega (arith, sum-push (changes_by L) L F Clear done replies c reply so_far.shaped))
+      (omega (arith, sum-push (calls_by L) L F Clear done replies c reply so_far.shaped))
+
+  -- where the mark is set, the reply is the size or `Broken`, and the mark stays
+  barred_shape : (m : Mark) → Knows m mid.broken → mid.broken ≡ true → ShapedBy L m N c reply
+  barred_shape Clear known set = absurd (false≢true (sym known ∙ set))
+  barred_shape Unknown known set = inr (barred_is set)
     where
-      later_of : {end traffic asked changes calls asked' : ℕ} → Moved mid.outside new.outside end traffic asked changes calls → asked ≡ asked'
-          → Moved mid.outside new.outside new.outside.reach new.outside.traffic asked' new.outside.changes new.outside.calls
-      later_of m is = record {
-        exact = m.exact;
-        setting = m.setting;
-        io_later = m.io_later;
-        rng_later = m.rng_later;
-        hash_later = m.hash_later;
-        reach_later = m.reach_later;
-        reach_most = omega arith;
-        traffic_later = m.traffic_later;
-        traffic_most = omega arith;
-        asked_later = m.asked_later;
-        asked_most = omega (arith, m.asked_most, is);
-        changes_later = m.changes_later;
-        changes_most = omega arith;
-        calls_later = m.calls_later;
-        calls_most = omega arith;
-        strays_later = m.strays_later;
-      }
+      barred_is : mid.broken ≡ true → reply ≡ broken_at N.size c
+      barred_is set = (stepped.barred set).0 ∙ ap (λ (f : File). broken_at f.size c) so_far.outline_is
+  barred_shape Set known set = (stepped.barred set).0 ∙ ap (λ (f : File). broken_at f.size c) so_far.outline_is
 
-  later_now : Moved old.outside new.outside new.outside.reach new.outside.traffic new.outside.asked new.outside.changes new.outside.calls
-  later_now = moved_all old.outside new.outside _ _ _ _ _ (moved_then old.outside mid.outside new.outside _ _ _ _ _ _ _ _ _ _ so_far.later (asked_now mid.broken refl))
+  barred_mark : (m : Mark) → Knows m mid.broken → mid.broken ≡ true → Knows (mark_after m c reply) new.broken
+  barred_mark m known set = known_after m c reply new.broken (λ _. subst (Knows m) (sym same) known) (λ _ _. same ∙ set) (λ small other _. absurd (false≢true (sym other ∙ told c (stepped.barred set).0 small)))
+    where
+      same : new.broken ≡ mid.broken
+      same = ap (λ (h : Handle). h.broken) (stepped.barred set).1
 
-  asked_more : new.outside.asked ≤ old.outside.asked + asked_along L F (done ++ c ∷ []) (replies ++ reply ∷ [])
-  asked_more = omega (arith, so_far.asked, (asked_now mid.broken refl).asked_most, along-push L F false done replies c reply so_far.shaped)
+      told : (d : Command) → reply ≡ broken_reply mid d → is_size d ≡ false → says_broken reply ≡ true
+      told command.Size is small = absurd (false≢true (sym small))
+      told (command.Read offset len) is small = ap says_broken is
+      told (command.Write offset bytes) is small = ap says_broken is
+      told (command.Truncate size) is small = ap says_broken is
+      told command.Sync is small = ap says_broken is
+      told command.Rebuild is small = ap says_broken is
+      told command.Verify is small = ap says_broken is
+      told command.Commitment is small = ap says_broken is
 
   pub numbers_more : is_fault reply ≡ false → NumbersSoFar C old new (done ++ c ∷ []) (replies ++ reply ∷ [])
   numbers_more calm = record {
-    shaped = shaped-push L F false done replies c reply so_far.shaped (shaped mid.broken refl);
-    outline_is = outlined mid.broken refl ∙ sym (numbers-push L F false done replies c reply so_far.shaped);
-    stopped = λ set. stopped-push L F false done replies c reply so_far.shaped ∙ stopped mid.broken refl set;
-    later = later_now;
-    asked = asked_more;
+    shaped = shaped-push L F Clear done replies c reply so_far.shaped (shaped mid.broken refl);
+    outline_is = outlined mid.broken refl ∙ sym (numbers-push L F Clear done replies c reply so_far.shaped);
+    marked = subst (λ (m : Mark). Knows m new.broken) (sym (mark-push L F Clear done replies c reply so_far.shaped)) (marked mid.broken refl);
+    moved = moved_more;
   }
     where
-      shaped : (marked : Bool) → mid.broken ≡ marked → Shaped L (numbers_in L F done replies) c reply ⊎ ((stopped_by false done replies ≡ true) × (reply ≡ Refused Broken))
-      shaped false unset =
-          inl (subst (λ (f : File). Shaped L f c reply) so_far.outline_is (subst (λ (l : Option ℕ). Shaped l (outline C mid.header) c reply) limit ((stepped.went unset).shaped calm)))
-      shaped true set = which c (stepped.barred set).0
-        where
-          broken : (reply ≡ Refused Broken) → Shaped L (numbers_in L F done replies) c reply ⊎ ((stopped_by false done replies ≡ true) × (reply ≡ Refused Broken))
-          broken is = inr (so_far.stopped set, is)
+      -- where the mark isn't set, the reply is one by numbers, and a rebuild that a missing chunk stopped alone may set it
+      went_shaped : mid.broken ≡ false → Shaped L N c reply
+      went_shaped unset =
+          subst (λ (f : File). Shaped L f c reply) so_far.outline_is
+          (subst (λ (l : Option ℕ). Shaped l (outline C mid.header) c reply) limit ((stepped.went unset).shaped calm))
 
-          which : (d : Command) → reply ≡ broken_reply mid d → Shaped L (numbers_in L F done replies) d reply ⊎ ((stopped_by false done replies ≡ true) × (reply ≡ Refused Broken))
-          which command.Size is =
-              inl (subst (λ (f : File). Shaped L f command.Size reply) so_far.outline_is
-              (subst (λ (r : Reply). Shaped L (outline C mid.header) command.Size r) (sym is) (subst (λ (l : Option ℕ). Shaped l (outline C mid.header) command.Size (broken_reply mid command.Size)) limit sized)))
-            where
-              sized : Shaped (limit_of mid) (outline C mid.header) command.Size (broken_reply mid command.Size)
-              sized = (stepped_shape C E mid)
-          which (command.Read offset len) is = inr (so_far.stopped set, is)
-          which (command.Write offset bytes) is = inr (so_far.stopped set, is)
-          which (command.Truncate size) is = inr (so_far.stopped set, is)
-          which command.Sync is = inr (so_far.stopped set, is)
-          which command.Rebuild is = inr (so_far.stopped set, is)
-          which command.Verify is = inr (so_far.stopped set, is)
-          which command.Commitment is = inr (so_far.stopped set, is)
+      shape : (m : Mark) → Knows m mid.broken → mid.broken ≡ false → ShapedBy L m N c reply
+      shape Clear known unset = went_shaped unset
+      shape Unknown known unset = inl (went_shaped unset)
+      shape Set known unset = absurd (false≢true (sym unset ∙ known))
+
+      shaped : (marked : Bool) → mid.broken ≡ marked → ShapedBy L M N c reply
+      shaped true set = barred_shape M so_far.marked set
+      shaped false unset = shape M so_far.marked unset
+
+      clear : mid.broken ≡ false → (c ≡ command.Rebuild → reply ≡ reply_as.Refused AuthenticationFailed → ⊥) → new.broken ≡ false
+      clear unset other = go new.broken refl
+        where
+          go : (b : Bool) → new.broken ≡ b → new.broken ≡ false
+          go true set = let why = (stepped.went unset).marked.calmly set calm in absurd (other why.0 why.1)
+          go false is = is
+
+      marked : (marked : Bool) → mid.broken ≡ marked → Knows (mark_after M c reply) new.broken
+      marked true set = barred_mark M so_far.marked set
+      marked false unset =
+          known_after M c reply new.broken
+          (λ size. subst (Knows M) (unset ∙ sym (clear unset (λ is _. false≢true (sym (ap is_size is) ∙ size)))) so_far.marked)
+          (λ _ set. absurd (unbroken L N c (subst (λ (r : Reply). Shaped L N c r) (broken_is reply set) (went_shaped unset))))
+          (λ _ _ calmly. clear unset (λ is why. false≢true (sym calmly ∙ ap (λ (d : Command). stops d reply) is ∙ ap (λ (r : Reply). stops command.Rebuild r) why)))
 
       after_is : (t : Bool) → refuses reply ≡ t → new.header ≡ cond {A = Header} t mid.header (with_size mid.header (size_after (outline C mid.header) c)) → outline C new.header ≡ numbers_after (outline C mid.header) c reply
       after_is true is header = ap (λ (h : Header). outline C h) header ∙ ap (λ (t : Bool). cond {A = File} t (outline C mid.header)
@@ -168,7 +273,7 @@ module _ (C : Cipher) (E : List ℕ → Hashing) (old mid new : Handle) (done : 
       outlined true set =
           ap (λ (h : Handle). outline C h.header) (stepped.barred set).1 ∙ so_far.outline_is ∙ sym (stays c (stepped.barred set).0)
         where
-          refused : (d : Command) → reply ≡ Refused Broken → numbers_after (numbers_in L F done replies) d reply ≡ numbers_in L F done replies
+          refused : (d : Command) → reply ≡ reply_as.Refused Broken → numbers_after (numbers_in L F done replies) d reply ≡ numbers_in L F done replies
           refused d is = ap (λ (r : Reply). numbers_after (numbers_in L F done replies) d r) is
 
           stays : (d : Command) → reply ≡ broken_reply mid d → numbers_after (numbers_in L F done replies) d reply ≡ numbers_in L F done replies
@@ -188,13 +293,6 @@ module _ (C : Cipher) (E : List ℕ → Hashing) (old mid new : Handle) (done : 
           stays command.Verify is = refused command.Verify is
           stays command.Commitment is = refused command.Commitment is
 
-      stopped : (marked : Bool) → mid.broken ≡ marked → new.broken ≡ true → stopped_by false done replies || stops c reply ≡ true
-      stopped true was set = or_left (stopped_by false done replies) (stops c reply) (so_far.stopped was)
-      stopped false unset set =
-          let why = (stepped.went unset).marked.calmly set calm in
-          ap (λ (d : Command). stopped_by false done replies || stops d reply) why.0 ∙ ap (λ (r : Reply). stopped_by false done replies || stops command.Rebuild r) why.1
-          ∙ or_right (stopped_by false done replies)
-
   pub numbers_cut : (commands rest : List Command) → commands ≡ done ++ c ∷ rest → is_fault reply ≡ true → Quiet old.outside mid.outside → EndedByNumbers C old new commands (replies ++ reply ∷ [])
   numbers_cut commands rest split fault quiet = record {
     run = inr (record {
@@ -209,9 +307,13 @@ module _ (C : Cipher) (E : List ℕ → Hashing) (old mid new : Handle) (done : 
       cause = caused_later failed.kind old.outside mid.outside new.outside quiet failed.cause;
       may = subst (λ (f : File). Faultable L failed.kind f c) so_far.outline_is (subst (λ (l : Option ℕ). Faultable l failed.kind (outline C mid.header) c) limit (failed.may (outline C mid.header) (inr refl)));
     });
-    later = later_now;
-    asked = subst (λ (l : List Command). new.outside.asked ≤ old.outside.asked + asked_along L F l (replies ++ reply ∷ [])) (sym split)
-        (omega (arith, asked_more, along-cut L F false done replies c reply rest so_far.shaped));
+    moved = subst (λ (l : List Command). BoundedAlong L F l (replies ++ reply ∷ []) old.outside new.outside) (sym split)
+        (moved_less old.outside new.outside _ _ _ _ _ _ _ _ _ _ moved_more
+        (omega (arith, longest-cut L F Clear done replies c reply rest so_far.shaped))
+        (omega (arith, sum-cut (traffic_by L) L F Clear done replies c reply rest so_far.shaped))
+        (omega (arith, sum-cut (asked_by L) L F Clear done replies c reply rest so_far.shaped))
+        (omega (arith, sum-cut (changes_by L) L F Clear done replies c reply rest so_far.shaped))
+        (omega (arith, sum-cut (calls_by L) L F Clear done replies c reply rest so_far.shaped)));
   }
     where
       unset : (marked : Bool) → mid.broken ≡ marked → mid.broken ≡ false
@@ -233,4 +335,4 @@ module _ (C : Cipher) (E : List ℕ → Hashing) (old mid new : Handle) (done : 
 
 pub numbers_whole : (C : Cipher) (old now : Handle) (commands : List Command) (replies : List Reply) → NumbersSoFar C old now commands replies → Quiet old.outside now.outside
     → EndedByNumbers C old now commands replies
-numbers_whole C old now commands replies so_far quiet = record { run = inl (so_far.shaped, quiet); later = so_far.later; asked = so_far.asked }
+numbers_whole C old now commands replies so_far quiet = record { run = inl (so_far.shaped, quiet); moved = so_far.moved }

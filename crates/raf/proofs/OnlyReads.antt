@@ -138,7 +138,7 @@ module _ (C : Cipher) (E : List ℕ → Hashing) (old new : Handle) (offset len 
   only_read = record {
     same = (λ i. handle_of new.outside (went.stays.key i) (header i) ((went.stays.bytes (inl refl)).1 i) ((broken ∙ sym unmarked) i));
     bytes = (went.stays.bytes (inl refl)).0;
-    durable = went.stays.durable refl;
+    durable = went.stays.durable (inl refl);
     moved =
         let m = went.bounded (outline C old.header) (inr refl) in
         let still : file_layout (apply (limit_of old) (outline C old.header) (command.Read offset len)).1 ≡ file_layout (outline C old.header) =

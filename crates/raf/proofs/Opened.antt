@@ -1,6 +1,8 @@
 -- An open file is what its storage opens to; and it holds again what a storage opens to whose first bytes and length are as before.
-use Rattle.std.proofs.Common.{◌≡◌, ℕ, List, length, take, drop, Some, refl, sym, ◌∙◌, ap, subst, arith}
-use Rattle.std.proofs.lemmas.List.{take-take, drop-take}
+use Rattle.std.proofs.Common.{◌≡◌, ℕ, ◌+◌, ◌≤◌, List, ◌++◌, length, take, drop, Some, refl, sym, ◌∙◌, ap, subst, arith}
+use Rattle.std.proofs.lemmas.List.{take-take, drop-take, take-append-le, length-append, length-take, length-drop}
+use Rattle.raf_io.specs.Storage.{spliced}
+use Rattle.raf_io.proofs.Splices.{spliced_inside}
 use Rattle.raf_format.specs.Cipher.{Cipher, IsLawful}
 use Rattle.raf_format.specs.Header.{between, header_tag}
 use Rattle.raf_format.specs.File.{File, IsFile, Opens, file_of}
@@ -41,3 +43,20 @@ holds_again C old new F c held key header tells front long = record {
       below = omega (arith, long, held.is_file.below);
       tagged = tag ∙ held.is_file.tagged ∙ ap (header_tag C old.key) (sym head);
     }
+
+-- bytes that are put behind the header, in place of others, leave the header and the length
+pub put_inside : (at : ℕ) (new b : List ℕ) → 96 ≤ at → at + length new ≤ length b → (take 96 (spliced at new b) ≡ take 96 b) × (length (spliced at new b) ≡ length b)
+put_inside at new b behind inside = (
+  ap (λ (l : List ℕ). take 96 l) (sym (spliced_inside at new b inside))
+      ∙ take-append-le 96 (take at b ++ new) (drop (at + length new) b) (omega (arith, front, whole))
+      ∙ take-append-le 96 (take at b) new (omega (arith, front))
+      ∙ take-take 96 at b behind,
+  ap (λ (l : List ℕ). length l) (sym (spliced_inside at new b inside))
+      ∙ omega (arith, inside, length-append (take at b ++ new) (drop (at + length new) b), whole, length-take at b, length-drop (at + length new) b),
+)
+  where
+    front : 96 ≤ length (take at b)
+    front = omega (arith, behind, inside, length-take at b)
+
+    whole : length (take at b ++ new) ≡ length (take at b) + length new
+    whole = length-append (take at b) new

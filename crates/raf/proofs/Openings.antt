@@ -1,5 +1,5 @@
 -- A file that was opened, with and without a tree, and why one wasn't once its header was found.
-use Rattle.std.proofs.Common.{◌≡◌, inl, inr, Bool, true, false, ℕ, zero, suc, ◌+◌, ◌*◌, ◌≤◌, ◌<◌, List, [], ◌∷◌, length, map, Option, Some, None, Result, Ok, Err, refl, sym, ◌∙◌, ap, subst, arith}
+use Rattle.std.proofs.Common.{◌≡◌, inl, inr, Bool, true, false, ℕ, zero, suc, ◌+◌, ◌*◌, ◌≤◌, ◌<◌, min, List, [], ◌∷◌, length, map, Option, Some, None, Result, Ok, Err, refl, sym, ◌∙◌, ap, subst, arith}
 use Rattle.std.specs.Prelude.{is_some, unwrap_or, slice_get}
 use Rattle.std.specs.Option.{option_map}
 use Rattle.raf_tree.specs.Hashing.{Hashing}
@@ -85,9 +85,15 @@ module _ (C : Cipher) (lawful : IsLawful C) (E : List ℕ → Hashing) (key : Li
     unmarked = refl;
     limit = bare.made.limit;
     room = bare.made.room;
-    fits = bare.fits;
+    sound = bare.sound;
     quiet = bare.quiet;
     looked = looked_bare old mid most bare.kept bare.moved bare.within;
+    moved =
+        let len = layout_len (shape_of C h) h.file_size in
+        let unlimited : most ≡ None = sym bare.made.limit ∙ ap (option_map (λ (t : Tree). t.max_chunks)) none in
+        let traffic : opening_traffic most len ≡ min 96 len = ap (λ (o : Option ℕ). opening_traffic o len) unlimited in
+        moved_less old mid _ _ _ _ _ len (opening_traffic most len) 0 0 (opening_calls most (chunk_count h.chunk_size h.file_size)) bare.moved
+        (omega arith) (omega (arith, traffic)) (omega arith) (omega arith) (omega arith);
     holds = λ b tells. (file_of C key h b, opens_of C lawful key b h (bare.is_file b tells), held mid tree b tells bare.kept.bytes, λ x t set is. absurd (no_tree tree t none is));
   }
 
@@ -130,9 +136,18 @@ module _ (C : Cipher) (lawful : IsLawful C) (E : List ℕ → Hashing) (key : Li
       unmarked = refl;
       limit = shapes_limit tree tree' grew.shapes ∙ bare.made.limit;
       room = bare.made.room;
-      fits = bare.fits;
+      sound = bare.sound;
       quiet = quiet_then old mid new bare.quiet grew.quiet;
       looked = looked (Ok tt) grew;
+      moved =
+          let t = most_is in
+          let len = layout_len (shape_of C h) h.file_size in
+          let n = chunk_count h.chunk_size h.file_size in
+          let traffic : opening_traffic most len ≡ len = ap (λ (o : Option ℕ). opening_traffic o len) t.2 in
+          let calls : opening_calls most n ≡ 2 * n + 2 * height t.0.max_chunks + 1 = ap (λ (o : Option ℕ). opening_calls o n) t.2 in
+          let bound : new.calls ≤ mid.calls + 2 * n + 2 * tree_height t.0 + 1 = grew.calls t.0 t.1 in
+          moved_less old new _ _ _ _ _ len (opening_traffic most len) 0 0 (opening_calls most n)
+          (moved_then old mid new _ _ _ _ _ _ _ _ _ _ bare.moved grew.moved) (omega arith) (omega (arith, traffic)) (omega arith) (omega arith) (omega (arith, calls, bound));
       holds = λ b tells. (
         file_of C key h b,
         opens_of C lawful key b h (bare.is_file b tells),

@@ -103,7 +103,7 @@ module _ (C : Cipher) (E : List ℕ → Hashing) (old mid new : Handle) (c : Com
             subst (λ (p : Due × File). Answers (λ r. OfTree E mid (KeptAnswer now command.Sync r)) p.0 reply) (apply_sync (limit_of mid) now) due
 
     keeps_durable : may_change c ≡ false → may_settle c ≡ false → IsDurable mid.outside → IsDurable new.outside
-    keeps_durable still quiet durable = λ x d bytes_are durable_is. durable x d (sym (same_bytes still) ∙ bytes_are) (sym (went.stays.durable quiet) ∙ durable_is)
+    keeps_durable still quiet durable = λ x d bytes_are durable_is. durable x d (sym (same_bytes still) ∙ bytes_are) (sym (went.stays.durable (inl quiet)) ∙ durable_is)
 
     step_settled : (s : Bool) → (s ≡ true → IsDurable mid.outside) → (d : Command) → d ≡ c → settles s c ≡ true → IsDurable new.outside
     step_settled s durable d is settled = go d is (subst (λ (x : Command). settles s x ≡ true) (sym is) settled)

@@ -107,7 +107,7 @@ module _ (C : Cipher) (lawful : IsLawful C) (E : List ℕ → Hashing) (key : Li
       (λ _. record { io = refl; rng = refl; hash = refl })
       (λ _. inr ([], refl, omega (arith, none)))
       (λ F measures. moved_any a a _ _ _ _ _ (moved_same a a refl))
-      (λ F held. refl) refl refl (λ _. refl) (λ both. no_rebuild both.0) (λ _. refl) (λ is. absurd (no_sync is))
+      (λ F held. refl) refl refl (λ _. refl) (λ both. no_rebuild both.0) (λ _. refl) (λ is. absurd (no_sync is)) tt
 
   module _ (n first stop : ℕ) (n_is : n ≡ min (offset + len) h.file_size - offset) (had : 0 < n) (first_is : first ≡ offset / h.chunk_size) (stop_is : stop ≡ (offset + n - 1) / h.chunk_size + 1) where
     end : offset + n ≡ min (offset + len) h.file_size
@@ -211,7 +211,7 @@ module _ (C : Cipher) (lawful : IsLawful C) (E : List ℕ → Hashing) (key : Li
         (bounded_by a b so_far.moved)
         (λ F held. so_far.strays held.bytes held.tells (omega (arith, held.is_file.length_fits)))
         so_far.moved.setting (omega (arith, so_far.moved.changes_later, so_far.moved.changes_most)) (λ _. omega (arith, so_far.moved.calls_later, so_far.moved.calls_most))
-        (λ both. no_rebuild both.0) (λ _. so_far.kept.durable) (λ is. absurd (no_sync is))
+        (λ both. no_rebuild both.0) (λ _. so_far.kept.durable) (λ is. absurd (no_sync is)) tt
 
     free : (L : Option ℕ) (chunks : List (Option (List ℕ))) → is_barred (apply L (with_chunks chunks) (Read offset len)).0 ≡ false
     free L chunks = ap (λ (p : Due × File). is_barred p.0) (apply_read L (with_chunks chunks) offset len (none_missing (needed (with_chunks chunks) (Read offset len)) 0 chunks) refl)
@@ -244,7 +244,7 @@ module _ (C : Cipher) (lawful : IsLawful C) (E : List ℕ → Hashing) (key : Li
             (bounded_by a b unread.moved)
             (λ F held. unread.strays held.bytes held.tells (omega (arith, held.is_file.length_fits)))
             unread.moved.setting (omega (arith, unread.moved.changes_later, unread.moved.changes_most)) (λ _. omega (arith, unread.moved.calls_later, unread.moved.calls_most))
-            (λ both. no_rebuild both.0) (λ _. unread.kept.durable) (λ is. absurd (no_sync is))
+            (λ both. no_rebuild both.0) (λ _. unread.kept.durable) (λ is. absurd (no_sync is)) tt
         go AuthenticationFailed is quiet =
             went_still C E (at a) (at b) (Read offset len) (Refused AuthenticationFailed) refl refl refl refl unmarked unread.kept.bytes unread.kept.left
             (λ F held calm. subst (λ (F : File). IsDue held.bytes (chunks_of C K h held.bytes) a F (Refused AuthenticationFailed)) (sym held.file)
@@ -257,7 +257,7 @@ module _ (C : Cipher) (lawful : IsLawful C) (E : List ℕ → Hashing) (key : Li
             (bounded_by a b unread.moved)
             (λ F held. unread.strays held.bytes held.tells (omega (arith, held.is_file.length_fits)))
             unread.moved.setting (omega (arith, unread.moved.changes_later, unread.moved.changes_most)) (λ _. omega (arith, unread.moved.calls_later, unread.moved.calls_most))
-            (λ both. no_rebuild both.0) (λ _. unread.kept.durable) (λ is. absurd (no_sync is))
+            (λ both. no_rebuild both.0) (λ _. unread.kept.durable) (λ is. absurd (no_sync is)) tt
         go Rng is why = absurd why
         go Hash is why = absurd why
         go (InvalidArgument r) is why = absurd why

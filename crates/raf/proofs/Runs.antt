@@ -7,7 +7,8 @@ use Rattle.raf.specs.Due.{Answers}
 use Rattle.raf.specs.Apply.{apply, file_after, longest}
 use Rattle.raf.specs.Image.{traced, bytes_after, asked_by, asked_in, changes_by, changes_in, traffic_by, traffic_in, calls_by, calls_in}
 use Rattle.raf.specs.Meaning.{Authentic}
-use Rattle.raf.specs.Session.{Ground, AllAnswer, AllAuthentic, TreeDecides, settles, settled_after, room_for, room_total}
+use Rattle.raf.specs.Session.{Ground, AllAnswer, AllAuthentic, TreeDecides, settles, settled_after, room_total}
+use Rattle.raf.specs.Ran.{room_for}
 use Rattle.raf.specs.declared.command.Command.{Command}
 use Rattle.raf.specs.declared.command.Reply.{Reply}
 

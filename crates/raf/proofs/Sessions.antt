@@ -7,16 +7,18 @@ use Rattle.raf_io.specs.declared.errors.ErrorKind.{ErrorKind}
 use Rattle.raf_io.specs.declared.errors.ErrorKind.TheVariants.{OutOfMemory}
 use Rattle.raf_tree.specs.Hashing.{Hashing}
 use Rattle.raf_format.specs.Cipher.{Cipher}
-use Rattle.raf_format.specs.File.{File, Opens, file_layout, layout_len, chunk_count, shape_of}
+use Rattle.raf_format.specs.File.{File, Shape, Opens, file_layout, layout_len, chunk_count, shape_of}
 use Rattle.raf.specs.Apply.{longest}
 use Rattle.raf.specs.Outside.{Outside, Quiet}
-use Rattle.raf.specs.Handle.{Handle, limit_of, hash_len_of, outline}
-use Rattle.raf.specs.Opening.{Settings, NotOpened, Opened, opening_traffic, opening_calls}
-use Rattle.raf.specs.Session.{Ground, Whole, Faulted, Answered, ByNumbers, CutShort, AllShaped, Meets, Ran, begun, room_total, asked_along}
-use Rattle.raf.specs.Ran.{Ended, Serves, ground}
+use Rattle.raf.specs.Handle.{Handle, Holds, limit_of, hash_len_of, outline}
+use Rattle.raf.specs.Opening.{Settings, Room, NotOpened, Opened, opening_traffic, opening_calls}
+use Rattle.raf.specs.Session.{Ground, Whole, Faulted, Answered, Meets, begun, room_total}
+use Rattle.raf.specs.Unseen.{AllShaped, BoundedAlong, ByNumbers, CutShort}
+use Rattle.raf.specs.Unseen.Mark.{Clear}
+use Rattle.raf.specs.Ran.{Ended, Ran, Serves, ground}
 use Rattle.raf.specs.declared.command.Command.{Command}
 use Rattle.raf.specs.declared.command.Reply.{Reply}
-use Rattle.raf.proofs.Moves.{moved_then, moved_all, quiet_then, caused_later}
+use Rattle.raf.proofs.Moves.{moved_then, moved_less, quiet_then, caused_later}
 
 longest_first : (limit : Option ℕ) (F : File) (commands : List Command) → file_layout F ≤ longest limit F commands
 longest_first limit F [] = omega arith
@@ -86,40 +88,45 @@ module _ (C : Cipher) (E : List ℕ → Hashing) (key : List ℕ) (s : Settings)
       record {
         file = F;
         opens = opens;
+        room = room_is F held.2 b opens;
         run = run_from F b now.outside replies all.run;
         reach = omega (arith, moved.reach_most, look.reach_most, size, longest_first s.most F (begun G commands replies));
-        traffic = omega (arith, moved.traffic_most, traffic_whole s.most (length b) look.traffic_most);
-        header_alone = λ none. omega (arith, moved.traffic_most, (looked.header_alone none).traffic_most);
+        traffic = omega (arith, moved.traffic_most, look.traffic_most);
         asked = omega (arith, moved.asked_most, looked.later.asked_most);
         changes = omega (arith, moved.changes_most, looked.later.changes_most);
         calls = omega (arith, moved.calls_most, calls_of b tells F opens);
         strays = all.strays ∙ looked.strays b tells;
       }
     where
-      traffic_whole : (most : Option ℕ) (len : ℕ) → h.outside.traffic ≤ before.traffic + opening_traffic most len → h.outside.traffic ≤ before.traffic + len
-      traffic_whole None len le = omega (arith, le)
-      traffic_whole (Some n) len le = le
+      room_is : (F : File) → Holds C h F → (b : List ℕ) → Opens C key b F → Room E s.outside.setting s.most (length F.chunks)
+      room_is F held b o =
+          let cs : o.header.chunk_size ≡ h.header.chunk_size = ap (λ (x : Shape). x.chunk_size) (sym o.shape ∙ ap (λ (f : File). f.shape) held.file) in
+          let size : o.header.file_size ≡ h.header.file_size = sym o.size ∙ ap (λ (f : File). f.size) held.file in
+          let count : length F.chunks ≡ chunk_count h.header.chunk_size h.header.file_size =
+          o.count ∙ ap (λ (n : ℕ). chunk_count n o.header.file_size) cs ∙ ap (λ (n : ℕ). chunk_count h.header.chunk_size n) size in
+          subst (λ (x : Option (List ℕ)). Room E x s.most (length F.chunks)) setting (subst (λ (n : ℕ). Room E before.setting s.most n) (sym count) opened.room)
 
       calls_of : (b : List ℕ) → before.bytes ≡ Some b → (F : File) (o : Opens C key b F) → h.outside.calls ≤ before.calls + opening_calls s.most (length F.chunks)
       calls_of b tells F o =
           subst (λ (n : ℕ). h.outside.calls ≤ before.calls + opening_calls s.most n) (sym o.count) (opened.looked.calls b o.header tells o.is_file.says)
 
-  numbers_from : (now : Handle) (replies : List Reply) → Ended C E h now commands replies → ByNumbers s.most commands before now.outside replies
+  numbers_from : (now : Handle) (replies : List Reply) → Ended C E h now commands replies
+      → ByNumbers C s.most (λ N. opening_traffic s.most (file_layout N)) commands before now.outside replies
   numbers_from now replies ended =
       let n = ended.numbers opened.unmarked in
-      let F = outline C h.header in
+      let N : File = outline C h.header in
+      let m = subst (λ (l : Option ℕ). BoundedAlong l N commands replies h.outside now.outside) opened.limit n.moved in
       record {
-        numbers = F;
-        unknown = refl;
-        fits = opened.fits;
+        header = h.header;
+        sound = opened.sound;
         run = run n.run;
-        later = moved_all before now.outside _ _ _ _ _ (moved_then before h.outside now.outside _ _ _ _ _ _ _ _ _ _ opened.looked.later n.later);
-        asked = omega (arith, subst (λ (l : Option ℕ). now.outside.asked ≤ h.outside.asked + asked_along l F commands replies) opened.limit n.asked, opened.looked.later.asked_most);
+        moved = moved_less before now.outside _ _ _ _ _ _ _ _ _ _ (moved_then before h.outside now.outside _ _ _ _ _ _ _ _ _ _ opened.moved m)
+            (omega arith) (omega arith) (omega arith) (omega arith) (omega arith);
       }
     where
-      run : (AllShaped (limit_of h) (outline C h.header) false commands replies × Quiet h.outside now.outside) ⊎ CutShort (limit_of h) (outline C h.header) commands h.outside now.outside replies
-          → (AllShaped s.most (outline C h.header) false commands replies × Quiet before now.outside) ⊎ CutShort s.most (outline C h.header) commands before now.outside replies
-      run (inl whole) = inl (subst (λ (l : Option ℕ). AllShaped l (outline C h.header) false commands replies) opened.limit whole.0, quiet_then before h.outside now.outside opened.quiet whole.1)
+      run : (AllShaped (limit_of h) Clear (outline C h.header) commands replies × Quiet h.outside now.outside) ⊎ CutShort (limit_of h) (outline C h.header) commands h.outside now.outside replies
+          → (AllShaped s.most Clear (outline C h.header) commands replies × Quiet before now.outside) ⊎ CutShort s.most (outline C h.header) commands before now.outside replies
+      run (inl whole) = inl (subst (λ (l : Option ℕ). AllShaped l Clear (outline C h.header) commands replies) opened.limit whole.0, quiet_then before h.outside now.outside opened.quiet whole.1)
       run (inr cut) = inr (at_limit (record {
         done = cut.done;
         command = cut.command;
@@ -156,7 +163,7 @@ module _ (C : Cipher) (E : List ℕ → Hashing) (key : List ℕ) (s : Settings)
         fits = fits;
         answered = answered_from now replies serves.answered.1;
         numbers = numbers_from now replies serves.answered.1;
-        setting = (moved_then before h.outside now.outside _ _ _ _ _ _ _ _ _ _ opened.looked.later (serves.answered.1.numbers opened.unmarked).later).setting;
+        setting = (moved_then before h.outside now.outside _ _ _ _ _ _ _ _ _ _ opened.looked.later (serves.answered.1.numbers opened.unmarked).moved).setting;
       })
   meets after (Err e) fits serves =
       subst (λ (o : Outside). Meets C E key s commands before o (Err e)) (sym serves.none.1) (record {

@@ -33,7 +33,7 @@ stepped_size C E h = record {
       (λ _. record { io = refl; rng = refl; hash = refl })
       (λ _. inr refl)
       (λ F measures. moved_any h.outside h.outside _ _ _ _ _ (moved_same h.outside h.outside refl))
-      (λ F held. refl) refl refl (λ _. refl) (λ both. no_rebuild both.0) (λ _. refl) (λ is. absurd (no_sync is));
+      (λ F held. refl) refl refl (λ _. refl) (λ both. no_rebuild both.0) (λ _. refl) (λ is. absurd (no_sync is)) tt;
 }
   where
     no_rebuild : Size ≡ Rebuild → ⊥

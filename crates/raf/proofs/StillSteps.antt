@@ -20,7 +20,7 @@ use Rattle.raf_tree.specs.Kept.{Kept as Tree}
 use Rattle.raf.specs.Outside.{Quiet}
 use Rattle.raf.proofs.Moves.{takes_none}
 use Rattle.raf.specs.Handle.{Handle, Holds, Measures, WithTree, OfTree, Grown, KeptAnswer, limit_of, outline}
-use Rattle.raf.specs.Stepped.{Failed, Bounded, Shaped, Went, with_size, refuses, may_mark, may_settle}
+use Rattle.raf.specs.Stepped.{Failed, Bounded, Shaped, Committed, Went, with_size, refuses, may_mark, may_settle}
 use Rattle.raf.specs.Due.{is_fault}
 use Rattle.raf_format.specs.declared.header.Header.{Header}
 use Rattle.raf.specs.declared.command.Command.{Command}
@@ -33,6 +33,28 @@ abbrev pub may_change : Command → Bool
 may_change (command.Write offset bytes) = true
 may_change (command.Truncate size) = true
 may_change _ = false
+
+-- such a change or rebuild leaves what is durable
+still_settles : (c : Command) → may_change c ≡ false → may_mark c ≡ true → may_settle c ≡ false
+still_settles (command.Read offset len) still marks = refl
+still_settles (command.Write offset bytes) still marks = absurd cc
+still_settles (command.Truncate size) still marks = absurd cc
+still_settles command.Size still marks = refl
+still_settles command.Sync still marks = absurd cc
+still_settles command.Rebuild still marks = refl
+still_settles command.Verify still marks = refl
+still_settles command.Commitment still marks = refl
+
+-- a change answers no commitment
+pub change_uncommitted : (E : List ℕ → Hashing) (old : Handle) (c : Command) (reply : Reply) → may_change c ≡ true → Committed E old c reply
+change_uncommitted E old (command.Read offset len) reply changes = tt
+change_uncommitted E old (command.Write offset bytes) reply changes = tt
+change_uncommitted E old (command.Truncate size) reply changes = tt
+change_uncommitted E old command.Size reply changes = tt
+change_uncommitted E old command.Sync reply changes = tt
+change_uncommitted E old command.Rebuild reply changes = tt
+change_uncommitted E old command.Verify reply changes = tt
+change_uncommitted E old command.Commitment reply changes = absurd cc
 
 pub sum_none : (f : ℕ → ℕ) (i n : ℕ) → sum_where (λ _. false) f i n ≡ 0
 sum_none f i zero = refl
@@ -117,8 +139,9 @@ module _ (C : Cipher) (E : List ℕ → Hashing) (old new : Handle) (c : Command
       → ((c ≡ command.Rebuild) × (reply ≡ Done) → ⊥)
       → (may_settle c ≡ false → new.outside.durable ≡ old.outside.durable)
       → (c ≡ command.Sync → reply ≡ Done → Told (SyncedTo old.outside.bytes) old.outside.durable new.outside.durable)
+      → Committed E old c reply
       → Went C E old new c reply
-  went_still due failed quiet shaped bounded strays setting changes calls other durable synced = record {
+  went_still due failed quiet shaped bounded strays setting changes calls other durable synced committed = record {
     answered = λ F held calm. record {
       due = (due F held calm).0;
       nonces = [];
@@ -145,13 +168,17 @@ module _ (C : Cipher) (E : List ℕ → Hashing) (old new : Handle) (c : Command
     shaped = shaped;
     bounded = bounded;
     strays = strays;
+    committed = committed;
     marked = record { sets = λ may refused began. absurd (elim began [ inl more ↦ omega (arith, more, changes) | inr more ↦ omega (arith, more, calls (inl may)) ]); cause = λ set. absurd (false≢true (sym unmarked ∙ set)); calmly = λ set. absurd (false≢true (sym unmarked ∙ set)) };
     stays = record {
       key = key;
       limit = ap (option_map (λ (t : Tree). t.max_chunks)) tree;
       header = same_header;
       bytes = λ _. (bytes, tree);
-      durable = durable;
+      durable = λ calm. elim calm [
+        | inl unsettled ↦ durable unsettled
+        | inr refused ↦ durable (still_settles c still refused.0)
+      ];
       synced = synced;
     };
   }

@@ -64,7 +64,7 @@ module _ (C : Cipher) (E : List ℕ → Hashing) (old new : Handle) (key : new.k
       (λ _. omega (arith, moved.calls_later, moved.calls_most))
       (λ both. other both.0)
       (λ is. absurd (false≢true (sym is)))
-      (λ _. synced)
+      (λ _. synced) tt
 
   pub synced : (r : Result (Unit {0}) Error) → OnOk r (Told (SyncedTo old.outside.bytes) old.outside.durable new.outside.durable)
       → IfErr r (λ e. (kind_of e ≡ Io) × Caused Io old.outside new.outside) → OnOk r (Quiet old.outside new.outside) → Went C E old new Sync (done_reply r)

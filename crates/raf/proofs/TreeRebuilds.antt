@@ -102,7 +102,7 @@ module _ (C : Cipher) (E : List ℕ → Hashing) (key : List ℕ) (h : Header) (
       go AuthenticationFailed is quiet =
           went_rebuilt C E key h t a x set K derived b t false (reply.Refused AuthenticationFailed) (same_shape t) v.kept
           (moved_less a b _ _ _ _ _ _ _ _ _ _ v.moved (omega arith) (omega arith) (omega arith) (omega arith) (omega arith))
-          v.strays (λ _. (quiet, inr refl)) (λ _. inr (refl, omega (arith, v.moved.calls_later, v.moved.calls_most), refl)) (λ no. absurd (false≢true (sym no)))
+          v.strays (λ _. (quiet, inr (refl, v.some))) (λ _. inr (refl, omega (arith, v.moved.calls_later, v.moved.calls_most), refl)) (λ no. absurd (false≢true (sym no)))
           (λ F held calm.
           let bad = v.missing held.bytes held.tells is in
           (refused_due F held.bytes (ap (λ (f : File). f.chunks) held.file) (some_missing C K h held.bytes bad.0 bad.1 bad.2), refl))
@@ -161,13 +161,16 @@ module _ (C : Cipher) (E : List ℕ → Hashing) (key : List ℕ) (h : Header) (
             inner : Some u ≡ Some t → u ≡ t
             inner same = cc
 
+        io_no_hash : Io ≡ Hash → ⊥
+        io_no_hash same = cc
+
         go : (u : Tree) → tree' ≡ Some u → SameShape t u → (k : ErrorKind) → kind_of e ≡ k → Ungrown k m b
             → Went C E (handle_of a key h (Some t) false) (handle_of b key h (Some u) broken) command.Rebuild (reply.Refused k)
         go u tree_is shape Io is why =
             went_rebuilt C E key h t a x set K derived b u broken (reply.Refused Io) shape (kept_then a m b seen.kept g.kept) (moved_both (Err e) g) (strays_both (Err e) g)
             (λ calm. absurd (false≢true (sym calm))) (λ _. stopped u tree_is) (λ no. absurd (false≢true (sym no)))
             (λ F held calm. absurd (false≢true (sym calm))) (λ F held done. absurd (not_done done))
-            (λ _. failed_io b _ (Some u) broken refl (caused_later Io a m b seen.quiet why) (g.some is))
+            (λ _. failed_io b _ (Some u) broken refl (caused_later Io a m b seen.quiet why) (g.some (λ other. io_no_hash (sym is ∙ other))))
         go u tree_is shape Hash is why =
             went_rebuilt C E key h t a x set K derived b u broken (reply.Refused Hash) shape (kept_then a m b seen.kept g.kept) (moved_both (Err e) g) (strays_both (Err e) g)
             (λ calm. absurd (false≢true (sym calm))) (λ _. stopped u tree_is) (λ no. absurd (false≢true (sym no)))
@@ -175,13 +178,16 @@ module _ (C : Cipher) (E : List ℕ → Hashing) (key : List ℕ) (h : Header) (
             (λ _. failed_hash b _ (Some u) broken refl (caused_later Hash a m b seen.quiet why))
         go u tree_is shape AuthenticationFailed is quiet =
             went_rebuilt C E key h t a x set K derived b u broken (reply.Refused AuthenticationFailed) shape (kept_then a m b seen.kept g.kept) (moved_both (Err e) g) (strays_both (Err e) g)
-            (λ _. (quiet_then a m b seen.quiet quiet, inr refl)) (λ _. stopped u tree_is) (λ no. absurd (false≢true (sym no)))
+            (λ _. (quiet_then a m b seen.quiet quiet, inr (refl, g.some (λ other. no_hash (sym is ∙ other))))) (λ _. stopped u tree_is) (λ no. absurd (false≢true (sym no)))
             (λ F held calm.
             let bad = g.missing held.bytes (seen.kept.bytes ∙ held.tells) is in
             let good = seen.there held.bytes held.tells bad.0 bad.1 in
             absurd (both (chunk_at C K h held.bytes bad.0) good.0 bad.2 good.1))
             (λ F held done. absurd (not_done done)) (λ fault. absurd (false≢true fault))
           where
+            no_hash : AuthenticationFailed ≡ Hash → ⊥
+            no_hash same = cc
+
             both : (o : Option (List ℕ)) (m : List ℕ) → o ≡ None → o ≡ Some m → ⊥
             both None m none some = cc
             both (Some y) m none some = cc

@@ -23,7 +23,7 @@ use Rattle.raf.specs.Image.{traffic_by, calls_by}
 use Rattle.raf.specs.Meaning.{Authentic, Faultable}
 use Rattle.raf.specs.Outside.{Outside, Kept, Quiet, Caused, Moved}
 use Rattle.raf.specs.Handle.{Handle, Holds, Measures, WithTree, OfTree, Grown, Paired, KeptAnswer, Matches, FirstBad, handle_of, limit_of, outline}
-use Rattle.raf.specs.Stepped.{Went, Failed, Bounded, Shaped, HasForm, with_size, refuses, verify_reply, commitment_reply}
+use Rattle.raf.specs.Stepped.{Went, Committed, Failed, Bounded, Shaped, HasForm, with_size, refuses, verify_reply, commitment_reply}
 use Rattle.raf.specs.Read.{chunks_of}
 use Rattle.raf.specs.Verifying.{Unanswered, Verifies}
 use Rattle.raf.specs.declared.command.Command.{Command}
@@ -88,10 +88,15 @@ went_unmerkled C E a key h c is =
     (λ _. record { io = refl; rng = refl; hash = refl })
     (λ _. shape c is)
     (λ F measures. moved_any a a _ _ _ _ _ (moved_same a a refl))
-    (λ F held. refl) refl refl (λ _. refl) (λ both. not_done MerkleNotEnabled both.1) (λ _. refl) (λ sync. absurd (no_sync c is sync))
+    (λ F held. refl) refl refl (λ _. refl) (λ both. not_done MerkleNotEnabled both.1) (λ _. refl) (λ sync. absurd (no_sync c is sync)) (refused_uncommitted c is)
   where
     old : Handle
     old = handle_of a key h None false
+
+    refused_uncommitted : (c : Command) → IsTreeCommand c → Committed E old c (reply.Refused MerkleNotEnabled)
+    refused_uncommitted c rebuild = tt
+    refused_uncommitted c verify = tt
+    refused_uncommitted c commitment = tt
 
     shape : (c : Command) → IsTreeCommand c → Shaped None (outline C h) c (reply.Refused MerkleNotEnabled)
     shape c rebuild = (λ _. refl, λ other. absurd (false≢true (sym other ∙ ap (λ (p : Due × File). is_refused p.0) (apply_none (outline C h) command.Rebuild rebuild))))
@@ -196,7 +201,7 @@ module _ (C : Cipher) (E : List ℕ → Hashing) (key : List ℕ) (h : Header) (
         (λ _. inr (subst (λ (p : Due × File). Answers (HasForm command.Verify) p.0 (reply.Verified found)) (sym (apply_some t.max_chunks (outline C h) command.Verify verify)) (found, refl)))
         (verify_bounded (Ok found) v) (verify_strays (Ok found) v) v.moved.setting (same (Ok found) v 0)
         (λ why. absurd (elim why [ inl may ↦ false≢true may | inr both ↦ false≢true both.0 ]))
-        (λ both. absurd (other both.0)) (λ _. v.kept.durable) (λ sync. absurd (no_sync command.Verify verify sync))
+        (λ both. absurd (other both.0)) (λ _. v.kept.durable) (λ sync. absurd (no_sync command.Verify verify sync)) tt
       where
         other : command.Verify ≡ command.Rebuild → ⊥
         other is = cc
@@ -233,7 +238,7 @@ module _ (C : Cipher) (E : List ℕ → Hashing) (key : List ℕ) (h : Header) (
             (λ calm. absurd (false≢true (sym calm))) (λ calm. absurd (false≢true (sym calm)))
             (verify_bounded (Err e) v) (verify_strays (Err e) v) v.moved.setting (same (Err e) v 0)
             (λ why. absurd (elim why [ inl may ↦ false≢true may | inr both ↦ false≢true (sym both.1) ]))
-            (λ both. absurd (other both.0)) (λ _. v.kept.durable) (λ sync. absurd (no_sync command.Verify verify sync))
+            (λ both. absurd (other both.0)) (λ _. v.kept.durable) (λ sync. absurd (no_sync command.Verify verify sync)) tt
         go Hash why =
             went_still C E (at a) (at b) command.Verify (reply.Refused Hash) refl refl refl refl refl v.kept.bytes v.kept.left
             (λ F held calm. absurd (false≢true (sym calm)))
@@ -247,7 +252,7 @@ module _ (C : Cipher) (E : List ℕ → Hashing) (key : List ℕ) (h : Header) (
             (λ calm. absurd (false≢true (sym calm))) (λ calm. absurd (false≢true (sym calm)))
             (verify_bounded (Err e) v) (verify_strays (Err e) v) v.moved.setting (same (Err e) v 0)
             (λ why. absurd (elim why [ inl may ↦ false≢true may | inr both ↦ false≢true (sym both.1) ]))
-            (λ both. absurd (other both.0)) (λ _. v.kept.durable) (λ sync. absurd (no_sync command.Verify verify sync))
+            (λ both. absurd (other both.0)) (λ _. v.kept.durable) (λ sync. absurd (no_sync command.Verify verify sync)) tt
         go AuthenticationFailed why = absurd why
         go Rng why = absurd why
         go (InvalidArgument r) why = absurd why
@@ -287,7 +292,7 @@ module _ (C : Cipher) (E : List ℕ → Hashing) (key : List ℕ) (h : Header) (
           (λ _. inr (subst (λ (p : Due × File). Answers (HasForm command.Commitment) p.0 (reply.Commitment out)) (sym (apply_some t.max_chunks (outline C h) command.Commitment commitment)) (out, refl)))
           commit_bounded (λ F held. strays) moved.setting unchanged
           (λ why. absurd (elim why [ inl may ↦ false≢true may | inr both ↦ false≢true both.0 ]))
-          (λ both. absurd (other_command both.0)) (λ _. kept_b.durable) (λ sync. absurd (no_sync command.Commitment commitment sync))
+          (λ both. absurd (other_command both.0)) (λ _. kept_b.durable) (λ sync. absurd (no_sync command.Commitment commitment sync)) (x, t, set, refl, is)
 
       pub went_uncommitted : (e : Error) → (kind_of e ≡ Hash) × Caused Hash a b → Went C E (at a) (at b) command.Commitment (reply.Refused (kind_of e))
       went_uncommitted e why = subst (λ (k : ErrorKind). Went C E (at a) (at b) command.Commitment (reply.Refused k)) (sym why.0)
@@ -303,7 +308,7 @@ module _ (C : Cipher) (E : List ℕ → Hashing) (key : List ℕ) (h : Header) (
           (λ calm. absurd (false≢true (sym calm))) (λ calm. absurd (false≢true (sym calm)))
           commit_bounded (λ F held. strays) moved.setting unchanged
           (λ why. absurd (elim why [ inl may ↦ false≢true may | inr both ↦ false≢true (sym both.1) ]))
-          (λ both. absurd (other_command both.0)) (λ _. kept_b.durable) (λ sync. absurd (no_sync command.Commitment commitment sync)))
+          (λ both. absurd (other_command both.0)) (λ _. kept_b.durable) (λ sync. absurd (no_sync command.Commitment commitment sync)) tt)
         where
           not_rng : Hash ≡ Rng → ⊥
           not_rng is = cc
@@ -316,7 +321,7 @@ module _ (C : Cipher) (E : List ℕ → Hashing) (key : List ℕ) (h : Header) (
     -- a tree that is made anew, or not
     module _ (u : Tree) (broken : Bool) (answer : Reply) (shape : SameShape t u) (kept_b : Kept a b) (moved : Moved a b whole (2 * (whole - 96)) 0 0 (2 * count + 2 * tree_height t + 1))
         (strays_b : (bytes : List ℕ) → a.bytes ≡ Some bytes → whole ≤ length bytes → b.strays ≡ a.strays)
-        (calm : is_fault answer ≡ false → Quiet a b × ((answer ≡ reply.Done) ⊎ (answer ≡ reply.Refused AuthenticationFailed)))
+        (calm : is_fault answer ≡ false → Quiet a b × ((answer ≡ reply.Done) ⊎ ((answer ≡ reply.Refused AuthenticationFailed) × (1 ≤ count))))
         (stopped : refuses answer ≡ true → ((broken ≡ true) × Rose a.calls b.calls) ⊎ ((broken ≡ false) × (b.calls ≡ a.calls) × (u ≡ t)))
         (done : refuses answer ≡ false → broken ≡ false) where
       abbrev pub now : Handle
@@ -373,6 +378,7 @@ module _ (C : Cipher) (E : List ℕ → Hashing) (key : List ℕ) (h : Header) (
         shaped = λ c. (λ refused. absurd (false≢true (sym (taken_up (outline C h) command.Rebuild rebuild) ∙ refused)), λ _. (calm c).1);
         bounded = rebuild_bounded;
         strays = λ F held. strays_b held.bytes held.tells (omega (arith, held.is_file.length_fits));
+        committed = tt;
         marked = record {
           sets = λ may refused began. elim (stopped refused) [
             | inl set ↦ set.0
@@ -381,7 +387,7 @@ module _ (C : Cipher) (E : List ℕ → Hashing) (key : List ℕ) (h : Header) (
           cause = λ set. (refl, refused_of set, inr (rose_of set));
           calmly = λ set c. elim (calm c).1 [
             | inl finished ↦ absurd (not_broken broken set (done (ap refuses finished)))
-            | inr auth ↦ (refl, auth)
+            | inr auth ↦ (refl, auth.0)
           ];
         };
         stays = record {
@@ -424,12 +430,12 @@ module _ (C : Cipher) (E : List ℕ → Hashing) (key : List ℕ) (h : Header) (
           with_it F held c was s v is kept_is = elim (calm c).1 [
             | inl finished ↦ at_setting s v is kept_is (grown F held finished)
             | inr auth ↦
-                elim (stopped (refused_auth auth)) [
+                elim (stopped (refused_auth auth.0)) [
                   | inl set ↦ absurd (not_broken broken set.0 (due F held c).1)
                   | inr not ↦
                       elim was [
                         | inl before ↦ before s v (sym moved.setting ∙ is) (ap (λ (t : Tree). Some t) (sym not.2) ∙ kept_is)
-                        | inr both ↦ absurd (other (sym auth ∙ both.1))
+                        | inr both ↦ absurd (other (sym auth.0 ∙ both.1))
                       ]
                 ]
           ]

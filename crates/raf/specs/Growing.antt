@@ -65,7 +65,7 @@ pub record Grew (C : Cipher) (E : List ℕ → Hashing) (chunk_key : List ℕ) (
       → IfErr result (λ e. kind_of e ≡ AuthenticationFailed → (i : ℕ) × (i < chunk_count h.chunk_size h.file_size)
       × (chunk_at C chunk_key h b i ≡ None))
   pub kinds : IfErr result (λ e. Ungrown (kind_of e) old new)
-  pub some : IfErr result (λ e. kind_of e ≡ Io → 1 ≤ chunk_count h.chunk_size h.file_size)
+  pub some : IfErr result (λ e. (kind_of e ≡ Hash → ⊥) → 1 ≤ chunk_count h.chunk_size h.file_size)
   pub quiet : OnOk result (Quiet old new)
   pub shapes : SameTree before tree
   pub kept : Kept old new

@@ -1,5 +1,5 @@
 -- An open file as its caller sees it, and the file that it holds (this project's own).
-use Rattle.std.specs.Prelude.{◌≡◌, ℕ, ◌+◌, ◌≤◌, Bool, true, if◌then◌else◌, List, [], ◌∷◌, map, Option, Some, None, ⊤, ◌⊎◌}
+use Rattle.std.specs.Prelude.{◌≡◌, ℕ, ◌+◌, ◌≤◌, Bool, true, if◌then◌else◌, List, [], ◌∷◌, length, take, map, Option, Some, None, ⊤, ◌⊎◌}
 use Rattle.std.specs.Option.{option_map}
 use Rattle.raf_tree.specs.Hashing.{Hashing}
 use Rattle.raf_tree.specs.Kept.{Kept, Keeps, kept, tree_height}
@@ -37,6 +37,12 @@ pub record Holds (C : Cipher) (h : Handle) (F : File) : Type 0 where
   pub tells : h.outside.bytes ≡ Some bytes
   pub is_file : IsFile C h.key bytes h.header
   pub file : F ≡ file_of C h.key h.header bytes
+
+-- where the storage's first 96 bytes and its length are as before, and key and header are those kept, a handle holds the file that the
+-- bytes are now
+abbrev pub HoldsAgain : Cipher → Type 0
+HoldsAgain C = (old new : Handle) (F : File) (b : List ℕ) (held : Holds C old F) → new.key ≡ old.key → new.header ≡ old.header
+    → new.outside.bytes ≡ Some b → take 96 b ≡ take 96 held.bytes → length b ≡ length held.bytes → Holds C new (file_of C new.key new.header b)
 
 -- the file of these numbers, of whose chunks nothing is known
 abbrev pub outline : Cipher → Header → File

@@ -14,6 +14,7 @@ pub mod Read
 pub mod Plan
 pub mod Put
 pub mod Carry
+pub mod Unseen
 pub mod Session
 pub mod Ran
 pub mod Converted
@@ -24,6 +25,7 @@ pub mod Given
 pub mod Complete
 pub mod Lending
 pub mod Probe
+pub mod Repaired
 pub mod Seek
 pub mod Cursor
 pub mod Paths

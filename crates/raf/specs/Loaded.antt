@@ -14,8 +14,11 @@ pub record Front (b got : List ℕ) : Type 0 where
   pub is : got ≡ take 96 b
   pub long : 96 ≤ length b
 
--- the numbers of a header that a storage can have
+-- a header of this algorithm, with numbers that a storage can have
 pub record Sound (C : Cipher) (h : Header) : Type 0 where
+  pub version_least : 1 ≤ h.version
+  pub version_most : h.version ≤ 2
+  pub algorithm : h.algorithm ≡ C.id
   pub least : 16 ≤ h.chunk_size
   pub most : h.chunk_size ≤ 1048576
   pub below : layout_len (shape_of C h) h.file_size < 2 ^ 64

@@ -17,6 +17,7 @@ use Rattle.raf_format.specs.Version.{version_number}
 use Rattle.raf.specs.declared.creating.Fresh.{Fresh}
 use Rattle.raf.specs.Concern.{none_missing}
 use Rattle.raf.specs.Outside.{Outside, Kept, Quiet, Caused, Moved}
+use Rattle.raf.specs.Loaded.{Sound}
 use Rattle.raf.specs.Handle.{Handle, Holds, WithTree, Grown, Paired, HasRoom, limit_of}
 use Rattle.std.specs.Option.{option_map}
 use Rattle.raf_tree.specs.Kept.{Kept as Tree}
@@ -162,23 +163,27 @@ pub record OpenedBare (C : Cipher) (E : List ℕ → Hashing) (key : List ℕ) (
   pub key_is : now.key ≡ key
   pub unmarked : now.broken ≡ false
   pub made : TreeMade E old.setting most (chunk_count now.header.chunk_size now.header.file_size) now.tree
-  pub fits : layout_len (shape_of C now.header) now.header.file_size < 2 ^ 64
+  pub sound : Sound C now.header
   pub is_file : (b : List ℕ) → old.bytes ≡ Some b → IsFile C key b now.header
   pub quiet : Quiet old now.outside
   pub kept : Kept old now.outside
   pub moved : Moved old now.outside 96 96 0 0 0
   pub within : (b : List ℕ) → old.bytes ≡ Some b → Within old now.outside (length b)
 
--- an opening: the new handle has this key, no kept mark and the builder's limit, in which its chunks have room; the storage opens to the
--- file that it holds; and with a hasher the kept tree is that of its chunks
+-- an opening: the new handle has this key, no kept mark, a header with numbers that can be, and the builder's limit, in which its chunks
+-- have room; no more was asked than these numbers say; the storage opens to the file that it holds; and with a hasher the kept tree is that
+-- of its chunks
 pub record Opened (C : Cipher) (E : List ℕ → Hashing) (key : List ℕ) (most : Option ℕ) (old : Outside) (now : Handle) : Type 0 where
   pub key_is : now.key ≡ key
   pub unmarked : now.broken ≡ false
   pub limit : limit_of now ≡ most
   pub room : Room E old.setting most (chunk_count now.header.chunk_size now.header.file_size)
-  pub fits : layout_len (shape_of C now.header) now.header.file_size < 2 ^ 64
+  pub sound : Sound C now.header
   pub quiet : Quiet old now.outside
   pub looked : Looked old now.outside most
+  pub moved : Moved old now.outside (layout_len (shape_of C now.header) now.header.file_size)
+      (opening_traffic most (layout_len (shape_of C now.header) now.header.file_size)) 0 0
+      (opening_calls most (chunk_count now.header.chunk_size now.header.file_size))
   pub holds : (b : List ℕ) → old.bytes ≡ Some b → (F : File) × Opens C key b F × Holds C now F × WithTree E now (Grown F)
 
 -- the chunk sizes of a file
@@ -232,12 +237,14 @@ WhyNotMade E s old Rng = CanMake E s × IsFree s old × (old.exact ≡ true → 
 WhyNotMade E s old Hash = CanMake E s × IsFree s old × (is_some s.outside.setting ≡ true)
 WhyNotMade E s old kind = IsChunkSize s.chunk_size × WhyNoTree E s.outside.setting s.most 0 kind
 
--- a making that was refused: unless the storage failed after it was written to, it has its bytes
+-- a making that was refused: unless the storage failed after it was written to, it has its bytes; and where the random source failed, no
+-- hash was asked
 pub record NotMade (E : List ℕ → Hashing) (s : Settings) (old new : Outside) (kind : ErrorKind) : Type 0 where
   pub why : WhyNotMade E s old kind
   pub fault : RefusalFault kind old new
   pub kept : ((kind ≡ Io) × Rose old.changes new.changes → ⊥) → (new.bytes ≡ old.bytes) × (new.durable ≡ old.durable)
   pub left : TakesAtMost old.left 32 new.left
+  pub unhashed : kind ≡ Rng → new.calls ≡ old.calls
   pub moved : Moved old new 96 96 32 2 1
   pub strays : new.strays ≡ old.strays
 

@@ -1,6 +1,7 @@
 -- A file at a path of the host (this project's own).
-use Rattle.std.specs.Prelude.{◌≡◌, ◌≢◌, Some, None, ⊤}
+use Rattle.std.specs.Prelude.{◌≡◌, ◌≢◌, Some, None}
 use Rattle.std.specs.IoError.{error_kind}
+use Rattle.std.specs.declared.io.Error.{Error as IoError}
 use Rattle.std.specs.declared.io.ErrorKind.TheVariants as host
 use Rattle.raf_io.specs.Kinds.{kind_of}
 use Rattle.raf_io.specs.declared.errors.Error.{Error}
@@ -31,17 +32,16 @@ abbrev pub FromNew : {R : Type 0} → RngGhosts R → R → (Settings → Outsid
 FromNew rng r P = (s : Settings) × IsNewBuilder (rng.left r) (rng.faults r) (rng.asked r) rng.exact s
     × P s (over_storage None None 0 0 0 0 0 s.outside)
 
--- the host opened no file: its error is handed on, but for the one that says that there is none, which is `NotFound`
-abbrev pub IsOfHost : Error → Type 0
-IsOfHost error.NotFound = ⊤
-IsOfHost (error.Io fault) = error_kind fault ≢ host.NotFound
-IsOfHost _ = ⊥
+-- the host opened no file: `NotFound` exactly where its error is of the kind that says so, and else that error itself
+pub record IsOfHost (fault : IoError) (e : Error) : Type 0 where
+  pub missing : error_kind fault ≡ host.NotFound → e ≡ error.NotFound
+  pub other : error_kind fault ≢ host.NotFound → e ≡ error.Io fault
 
 module _ {R : Type 0} (io : IoGhosts FileIo) (rng : RngGhosts R) where
   -- a refusal at a path: no file was opened, and the random source is as it was; or one was, and this is so of a new builder, as above, of
   -- what file and source show now, and of the refusal's kind
   abbrev pub RefusedAt : R → (Settings → Outside → Outside → ErrorKind → Type 0) → PathError R → Type 0
   RefusedAt r P e = elim e.io [
-    | None ↦ IsOfHost e.error × (e.rng ≡ r)
+    | None ↦ ((fault : IoError) × IsOfHost fault e.error) × (e.rng ≡ r)
     | Some file ↦ (o : Outside) × Shows io rng file e.rng o × FromNew rng r (λ s old. P s old o (kind_of e.error))
   ]

@@ -1,5 +1,5 @@
 -- Commands on an open file, one after the other: what the code of a session hands on (this project's own).
-use Rattle.std.specs.Prelude.{◌≡◌, ℕ, ◌+◌, ◌≤◌, ◌⊎◌, ◌||◌, Bool, true, false, List, ◌∷◌, length, Some, Result, IfOk, IfErr}
+use Rattle.std.specs.Prelude.{◌≡◌, ℕ, ◌⊎◌, Bool, true, false, List, ◌∷◌, length, replicate, Some, Result, IfOk, IfErr, ⊤}
 use Rattle.raf_io.specs.Source.{Takes}
 use Rattle.raf_tree.specs.Hashing.{Hashing}
 use Rattle.raf_format.specs.Cipher.{Cipher}
@@ -8,8 +8,9 @@ use Rattle.raf.specs.Apply.{file_after, longest}
 use Rattle.raf.specs.Image.{traced, asked_in, changes_in, traffic_in, calls_in}
 use Rattle.raf.specs.Outside.{Outside, Quiet, Moved}
 use Rattle.raf.specs.Handle.{Handle, Holds, WithTree, Grown, limit_of, outline}
-use Rattle.raf.specs.Session.{Ground, AllAnswer, AllAuthentic, settled_after, IsDurable, Ran, AllShaped, CutShort, numbers_in}
-use Rattle.raf.specs.Session.{asked_along, stops}
+use Rattle.raf.specs.Session.{Ground, AllAnswer, AllAuthentic, Whole, Faulted, settled_after, IsDurable, begun, room_of}
+use Rattle.raf.specs.Unseen.{Mark, mark_after, AllShaped, CutShort, numbers_in, BoundedAlong}
+use Rattle.raf.specs.Unseen.Mark.{Clear, Unknown, Set}
 use Rattle.raf.specs.declared.command.Command.{Command}
 use Rattle.raf.specs.declared.command.Reply.{Reply}
 use Rattle.raf_io.specs.Kinds.{kind_of}
@@ -20,10 +21,28 @@ use Rattle.raf_io.specs.declared.errors.ErrorKind.TheVariants.{OutOfMemory}
 abbrev pub ground : Cipher → (List ℕ → Hashing) → Handle → Ground
 ground C E h = record { cipher = C; answers = E; setting = h.outside.setting; limit = limit_of h; key = h.key }
 
--- a rebuild that a missing chunk stopped is among commands and their replies, or came before
-abbrev pub stopped_by : Bool → List Command → List Reply → Bool
-stopped_by stopped (c ∷ commands) (r ∷ replies) = stopped_by (stopped || stops c r) commands replies
-stopped_by stopped _ _ = stopped
+-- room for a reply's bytes
+abbrev pub room_for : ℕ → Command → List ℕ
+room_for hash_len c = replicate (room_of hash_len c) 0
+
+-- what is known of the kept mark after commands and their replies
+abbrev pub mark_in : Mark → List Command → List Reply → Mark
+mark_in m (c ∷ commands) (r ∷ replies) = mark_in (mark_after m c r) commands replies
+mark_in m _ _ = m
+
+-- so it stands
+abbrev pub Knows : Mark → Bool → Type 0
+Knows Clear broken = broken ≡ false
+Knows Unknown broken = ⊤
+Knows Set broken = broken ≡ true
+
+-- how commands on an open file ended, over a storage that tells
+pub record Ran (G : Ground) (F : File) (b : List ℕ) (commands : List Command) (before after : Outside) (replies : List Reply) : Type 0 where
+  pub run : Whole G F b commands before after replies ⊎ Faulted G F b commands before after replies
+  pub moved : Moved before after (longest G.limit F (begun G commands replies)) (traffic_in G.limit F (begun G commands replies))
+      (asked_in G.limit F (begun G commands replies))
+      (changes_in G.limit F (begun G commands replies)) (calls_in G.limit F (begun G commands replies))
+  pub strays : after.strays ≡ before.strays
 
 -- commands without a fault so far, over a storage that tells
 pub record SoFar (C : Cipher) (E : List ℕ → Hashing) (old now : Handle) (F : File) (b : List ℕ) (commands : List Command)
@@ -45,11 +64,10 @@ pub record SoFar (C : Cipher) (E : List ℕ → Hashing) (old now : Handle) (F :
 
 -- the same by numbers, over any storage
 pub record NumbersSoFar (C : Cipher) (old now : Handle) (commands : List Command) (replies : List Reply) : Type 0 where
-  pub shaped : AllShaped (limit_of old) (outline C old.header) false commands replies
+  pub shaped : AllShaped (limit_of old) Clear (outline C old.header) commands replies
   pub outline_is : outline C now.header ≡ numbers_in (limit_of old) (outline C old.header) commands replies
-  pub stopped : now.broken ≡ true → stopped_by false commands replies ≡ true
-  pub later : Moved old.outside now.outside now.outside.reach now.outside.traffic now.outside.asked now.outside.changes now.outside.calls
-  pub asked : now.outside.asked ≤ old.outside.asked + asked_along (limit_of old) (outline C old.header) commands replies
+  pub marked : Knows (mark_in Clear commands replies) now.broken
+  pub moved : BoundedAlong (limit_of old) (outline C old.header) commands replies old.outside now.outside
 
 -- both
 pub record Progress (C : Cipher) (E : List ℕ → Hashing) (old now : Handle) (commands : List Command) (replies : List Reply) : Type 0 where
@@ -64,10 +82,9 @@ pub record Progress (C : Cipher) (E : List ℕ → Hashing) (old now : Handle) (
 
 -- by numbers, commands that are done, up to the first fault
 pub record EndedByNumbers (C : Cipher) (old new : Handle) (commands : List Command) (replies : List Reply) : Type 0 where
-  pub run : (AllShaped (limit_of old) (outline C old.header) false commands replies × Quiet old.outside new.outside)
+  pub run : (AllShaped (limit_of old) Clear (outline C old.header) commands replies × Quiet old.outside new.outside)
       ⊎ CutShort (limit_of old) (outline C old.header) commands old.outside new.outside replies
-  pub later : Moved old.outside new.outside new.outside.reach new.outside.traffic new.outside.asked new.outside.changes new.outside.calls
-  pub asked : new.outside.asked ≤ old.outside.asked + asked_along (limit_of old) (outline C old.header) commands replies
+  pub moved : BoundedAlong (limit_of old) (outline C old.header) commands replies old.outside new.outside
 
 -- commands that are done, up to the first fault
 pub record Ended (C : Cipher) (E : List ℕ → Hashing) (old new : Handle) (commands : List Command) (replies : List Reply) : Type 0 where

@@ -1,20 +1,20 @@
 -- What a session answers (this project's own).
-use Rattle.std.specs.Prelude.{◌≡◌, ℕ, ◌+◌, ◌^◌, ◌<◌, ◌≤◌, max, Bool, true, false, ◌||◌, if◌then◌else◌, List, [], ◌∷◌, ◌++◌, length, take}
-use Rattle.std.specs.Prelude.{drop, replicate, Option, Some, None, unwrap_or, Result, IfOk, IfErr, ⊤, ◌⊎◌}
+use Rattle.std.specs.Prelude.{◌≡◌, ℕ, ◌+◌, ◌^◌, ◌<◌, ◌≤◌, max, Bool, true, false, List, [], ◌∷◌, ◌++◌, length, take}
+use Rattle.std.specs.Prelude.{drop, Option, Some, None, unwrap_or, Result, IfOk, IfErr, ⊤, ◌⊎◌}
 use Rattle.raf_io.specs.Source.{Takes, TakesAtMost, IsShort}
 use Rattle.raf_tree.specs.Hashing.{Hashing}
 use Rattle.raf_tree.specs.Tree.{root, leaves, height}
 use Rattle.raf_format.specs.Cipher.{Cipher}
-use Rattle.raf_format.specs.File.{File, Opens, layout_len}
+use Rattle.raf_format.specs.File.{File, Opens, file_layout}
 use Rattle.raf.specs.Due.{Answers}
 use Rattle.raf.specs.Apply.{apply, file_after, longest}
 use Rattle.raf.specs.Image.{traced, bytes_after, asked_by, asked_in, changes_in, traffic_in, calls_in}
 use Rattle.raf.specs.Meaning.{Spares, Faultable, Authentic}
-use Rattle.raf.specs.Outside.{Outside, Quiet, Caused, Moved}
+use Rattle.raf.specs.Outside.{Outside, Quiet, Caused}
 use Rattle.raf.specs.Handle.{hash_len_of}
-use Rattle.raf.specs.Concern.{size_after}
-use Rattle.raf.specs.Stepped.{may_settle, refuses, Shaped}
-use Rattle.raf.specs.Opening.{Settings, NotOpened, opening_calls}
+use Rattle.raf.specs.Stepped.{may_settle}
+use Rattle.raf.specs.Opening.{Settings, Room, NotOpened, opening_calls, opening_traffic}
+use Rattle.raf.specs.Unseen.{ByNumbers}
 use Rattle.raf_io.specs.Kinds.{kind_of}
 use Rattle.raf.specs.declared.command.Command.{Command}
 use Rattle.raf.specs.declared.command.Command.TheVariants as command
@@ -22,16 +22,13 @@ use Rattle.raf.specs.declared.command.Reply.{Reply}
 use Rattle.raf.specs.declared.command.Reply.TheVariants.{Done, Verified, Commitment, Refused}
 use Rattle.raf_io.specs.declared.errors.Error.{Error}
 use Rattle.raf_io.specs.declared.errors.ErrorKind.{ErrorKind}
-use Rattle.raf_io.specs.declared.errors.ErrorKind.TheVariants.{AuthenticationFailed, Broken, Rng, Overflow}
+use Rattle.raf_io.specs.declared.errors.ErrorKind.TheVariants.{Rng, Overflow}
 
 -- how many bytes the reply to a command has at most, with hashes of this length
 abbrev pub room_of : ℕ → Command → ℕ
 room_of hash_len (command.Read offset len) = len
 room_of hash_len command.Commitment = hash_len
 room_of hash_len _ = 0
-
-abbrev pub room_for : ℕ → Command → List ℕ
-room_for hash_len c = replicate (room_of hash_len c) 0
 
 abbrev pub room_total : ℕ → List Command → ℕ
 room_total hash_len [] = 0
@@ -136,69 +133,19 @@ module _ (G : Ground) where
   abbrev pub begun : List Command → List Reply → List Command
   begun commands replies = take (length replies) commands
 
-  -- a session over a storage that tells its bytes: the file that they open to, and the run; and the most that was asked, the opening included
+  -- a session over a storage that tells its bytes: the file that they open to, whose chunks have room in the tree, and the run; and the most
+  -- that was asked, the opening included
   pub record Answered (b : List ℕ) (commands : List Command) (before after : Outside) (replies : List Reply) : Type 0 where
     pub file : File
     pub opens : Opens G.cipher G.key b file
+    pub room : Room G.answers G.setting G.limit (length file.chunks)
     pub run : Whole file b commands before after replies ⊎ Faulted file b commands before after replies
     pub reach : after.reach ≤ max before.reach (longest G.limit file (begun commands replies))
-    pub traffic : after.traffic ≤ before.traffic + length b + traffic_in G.limit file (begun commands replies)
-    pub header_alone : G.limit ≡ None → after.traffic ≤ before.traffic + 96 + traffic_in G.limit file (begun commands replies)
+    pub traffic : after.traffic ≤ before.traffic + opening_traffic G.limit (length b) + traffic_in G.limit file (begun commands replies)
     pub asked : after.asked ≤ before.asked + asked_in G.limit file (begun commands replies)
     pub changes : after.changes ≤ before.changes + changes_in G.limit file (begun commands replies)
     pub calls : after.calls ≤ before.calls + opening_calls G.limit (length file.chunks) + calls_in G.limit file (begun commands replies)
     pub strays : after.strays ≡ before.strays
-
--- over a storage that doesn't tell. A file of which the numbers are known, and no chunk, after a reply: a command that is refused leaves it
-abbrev pub numbers_after : File → Command → Reply → File
-numbers_after F c r = if refuses r then F else record { shape = F.shape; id = F.id; size = size_after F c; chunks = F.chunks }
-
--- the command was a rebuild that a missing chunk stopped: the file may have the kept mark then
-abbrev pub stops : Command → Reply → Bool
-stops command.Rebuild (Refused AuthenticationFailed) = true
-stops c r = false
-
-module _ (limit : Option ℕ) where
-  -- each reply is one by numbers, or, where such a rebuild came before, `Broken`
-  abbrev pub AllShaped : File → Bool → List Command → List Reply → Type 0
-  AllShaped F stopped [] [] = ⊤
-  AllShaped F stopped [] (r ∷ replies) = ⊥
-  AllShaped F stopped (c ∷ commands) [] = ⊥
-  AllShaped F stopped (c ∷ commands) (r ∷ replies) =
-      (Shaped limit F c r ⊎ ((stopped ≡ true) × (r ≡ Refused Broken)))
-      × AllShaped (numbers_after F c r) (stopped || stops c r) commands replies
-
-  -- the numbers after commands and their replies, and the most random bytes that they asked
-  abbrev pub numbers_in : File → List Command → List Reply → File
-  numbers_in F (c ∷ commands) (r ∷ replies) = numbers_in (numbers_after F c r) commands replies
-  numbers_in F _ _ = F
-
-  abbrev pub asked_along : File → List Command → List Reply → ℕ
-  asked_along F (c ∷ commands) (r ∷ replies) = asked_by limit F c + asked_along (numbers_after F c r) commands replies
-  asked_along F _ _ = 0
-
-  -- the last command met a fault
-  pub record CutShort (F : File) (commands : List Command) (before after : Outside) (replies : List Reply) : Type 0 where
-    pub done : List Command
-    pub command : Command
-    pub rest : List Command
-    pub split : commands ≡ done ++ command ∷ rest
-    pub answered : List Reply
-    pub kind : ErrorKind
-    pub last : replies ≡ answered ++ Refused kind ∷ []
-    pub shaped : AllShaped F false done answered
-    pub cause : Caused kind before after
-    pub may : Faultable limit kind (numbers_in F done answered) command
-
-  -- a session over any storage, for some numbers: the replies by numbers, and a fault by its count, which is the last reply; no count
-  -- fell; and the most random bytes that were asked
-  pub record ByNumbers (commands : List Command) (before after : Outside) (replies : List Reply) : Type 0 where
-    pub numbers : File
-    pub unknown : numbers.chunks ≡ []
-    pub fits : layout_len numbers.shape numbers.size < 2 ^ 64
-    pub run : (AllShaped numbers false commands replies × Quiet before after) ⊎ CutShort numbers commands before after replies
-    pub later : Moved before after after.reach after.traffic after.asked after.changes after.calls
-    pub asked : after.asked ≤ before.asked + asked_along numbers commands replies
 
 -- a session that was refused: its first row is the sum of the rooms of the replies, and nothing was asked then; else it is an opening that
 -- was refused
@@ -206,14 +153,6 @@ abbrev pub Refusal : Cipher → (List ℕ → Hashing) → List ℕ → Settings
 Refusal C E key s commands before after kind =
     ((2 ^ 64 ≤ room_total (hash_len_of E s.outside.setting) commands) × (kind ≡ Overflow) × (after ≡ before))
     ⊎ ((room_total (hash_len_of E s.outside.setting) commands < 2 ^ 64) × NotOpened C E key s.most before after kind)
-
--- how commands on an open file ended, over a storage that tells
-pub record Ran (G : Ground) (F : File) (b : List ℕ) (commands : List Command) (before after : Outside) (replies : List Reply) : Type 0 where
-  pub run : Whole G F b commands before after replies ⊎ Faulted G F b commands before after replies
-  pub moved : Moved before after (longest G.limit F (begun G commands replies)) (traffic_in G.limit F (begun G commands replies))
-      (asked_in G.limit F (begun G commands replies))
-      (changes_in G.limit F (begun G commands replies)) (calls_in G.limit F (begun G commands replies))
-  pub strays : after.strays ≡ before.strays
 
 -- a session of a key and commands, by a builder's settings, from one state of storage, random source and hasher to another
 pub record Meets (C : Cipher) (E : List ℕ → Hashing) (key : List ℕ) (s : Settings) (commands : List Command) (before after : Outside)
@@ -223,5 +162,5 @@ pub record Meets (C : Cipher) (E : List ℕ → Hashing) (key : List ℕ) (s : S
   pub answered : (b : List ℕ) → before.bytes ≡ Some b
       → IfOk outcome (λ replies. Answered (record { cipher = C; answers = E; setting = s.outside.setting; limit = s.most; key = key }) b
       commands before after replies)
-  pub numbers : IfOk outcome (λ replies. ByNumbers s.most commands before after replies)
+  pub numbers : IfOk outcome (λ replies. ByNumbers C s.most (λ N. opening_traffic s.most (file_layout N)) commands before after replies)
   pub setting : after.setting ≡ before.setting

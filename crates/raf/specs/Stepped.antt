@@ -1,9 +1,10 @@
 -- One command on an open file: what every call on it states, each of its own command and reply (this project's own).
 use Rattle.std.specs.Prelude.{◌≡◌, ℕ, ◌+◌, ◌-◌, ◌≤◌, min, max, Bool, true, false, if◌then◌else◌, List, length, take, Option, Some, Result}
-use Rattle.std.specs.Prelude.{Ok, Err, ◌⊎◌}
+use Rattle.std.specs.Prelude.{Ok, Err, ◌⊎◌, ⊤}
 use Rattle.raf_io.specs.Storage.{Told, SyncedTo}
 use Rattle.raf_io.specs.Source.{Takes, TakesAtMost, IsShort}
 use Rattle.raf_tree.specs.Hashing.{Hashing}
+use Rattle.raf_tree.specs.Kept.{kept, tree_height}
 use Rattle.raf_format.specs.Cipher.{Cipher}
 use Rattle.raf_format.specs.File.{File, chunk_count, file_layout}
 use Rattle.raf.specs.Due.{Answers, is_refused}
@@ -122,7 +123,8 @@ Shaped limit F (command.Read offset len) reply =
     ((reply ≡ Refused AuthenticationFailed) × Needs F (command.Read offset len))
     ⊎ ((got : List ℕ) × (reply ≡ Bytes got) × (length got ≡ min (offset + len) F.size - offset))
 Shaped limit F command.Rebuild reply = (is_refused (apply limit F command.Rebuild).0 ≡ true → reply ≡ Refused MerkleNotEnabled)
-    × (is_refused (apply limit F command.Rebuild).0 ≡ false → (reply ≡ Done) ⊎ (reply ≡ Refused AuthenticationFailed))
+    × (is_refused (apply limit F command.Rebuild).0 ≡ false
+    → (reply ≡ Done) ⊎ ((reply ≡ Refused AuthenticationFailed) × (1 ≤ chunk_count F.shape.chunk_size F.size)))
 Shaped limit F c reply =
     ((reply ≡ Refused AuthenticationFailed) × (fits limit F c ≡ true) × Needs F c) ⊎ Answers (HasForm c) (apply limit F c).0 reply
 
@@ -133,16 +135,23 @@ pub record Marked (old new : Handle) (c : Command) (reply : Reply) : Type 0 wher
   pub cause : new.broken ≡ true → (may_mark c ≡ true) × (refuses reply ≡ true) × MayHaveBegun old.outside new.outside
   pub calmly : new.broken ≡ true → is_fault reply ≡ false → (c ≡ command.Rebuild) × (reply ≡ Refused AuthenticationFailed)
 
--- what stays: the key, the header but for the size, which a change without a refusal alone sets; the limit; the storage's bytes and the
--- tree where the command is refused and sets no mark; and what is durable
+-- what stays: the key, the header but for the size, which a change without a refusal alone sets; the limit; and the storage's bytes, what
+-- of it is durable, and the tree where a change or a rebuild is refused and sets no mark
 pub record Stays (C : Cipher) (old new : Handle) (c : Command) (reply : Reply) : Type 0 where
   pub key : new.key ≡ old.key
   pub limit : limit_of new ≡ limit_of old
   pub header : new.header ≡ (if refuses reply then old.header else with_size old.header (size_after (outline C old.header) c))
   pub bytes : may_mark c ≡ false ⊎ ((refuses reply ≡ true) × (new.broken ≡ false)) → (new.outside.bytes ≡ old.outside.bytes)
       × (new.tree ≡ old.tree)
-  pub durable : may_settle c ≡ false → new.outside.durable ≡ old.outside.durable
+  pub durable : (may_settle c ≡ false) ⊎ ((may_mark c ≡ true) × (refuses reply ≡ true) × (new.broken ≡ false))
+      → new.outside.durable ≡ old.outside.durable
   pub synced : c ≡ command.Sync → reply ≡ Done → Told (SyncedTo old.outside.bytes) old.outside.durable new.outside.durable
+
+-- a commitment is that of the kept root, the file's id and its size, whatever the storage tells
+abbrev pub Committed : (List ℕ → Hashing) → Handle → Command → Reply → Type 0
+Committed E old command.Commitment (Commitment out) =
+    OfTree E old (λ H t. out ≡ H.commitment (kept t (tree_height t) 0) old.header.id old.header.file_size)
+Committed E old _ _ = ⊤
 
 -- a command on a file without the kept mark
 pub record Went (C : Cipher) (E : List ℕ → Hashing) (old new : Handle) (c : Command) (reply : Reply) : Type 0 where
@@ -153,13 +162,17 @@ pub record Went (C : Cipher) (E : List ℕ → Hashing) (old new : Handle) (c : 
   pub shaped : is_fault reply ≡ false → Shaped (limit_of old) (outline C old.header) c reply
   pub bounded : (F : File) → Measures C old F → Bounded (limit_of old) old.outside new.outside F c
   pub strays : (F : File) → Holds C old F → new.outside.strays ≡ old.outside.strays
+  pub committed : Committed E old c reply
   pub marked : Marked old new c reply
   pub stays : Stays C old new c reply
 
 -- the reply where the kept mark is set: the size that is kept, and else `Broken`
+abbrev pub broken_at : ℕ → Command → Reply
+broken_at size command.Size = Size size
+broken_at size _ = Refused Broken
+
 abbrev pub broken_reply : Handle → Command → Reply
-broken_reply h command.Size = Size h.header.file_size
-broken_reply h _ = Refused Broken
+broken_reply h c = broken_at h.header.file_size c
 
 -- a command on an open file: where the kept mark is set nothing happens
 pub record Stepped (C : Cipher) (E : List ℕ → Hashing) (old new : Handle) (c : Command) (reply : Reply) : Type 0 where

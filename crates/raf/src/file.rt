@@ -16,6 +16,7 @@ ghost use Rattle.std.specs.Borrow.{sem};
 ghost use Rattle.aegis_core.specs.Sealing.{key_len};
 ghost use Rattle.aegis_core.specs.Keys.{derived_key};
 ghost use Rattle.raf_format.specs.Derived.{CanDerive};
+ghost use Rattle.raf_format.specs.Version.{version_number};
 ghost use Rattle.raf.specs.Probe.{WhyNoKey};
 ghost use Rattle.raf.specs.Lending.{lends_storage, with_storage};
 ghost use Rattle.raf.specs.Clash.{Compared};
@@ -29,7 +30,7 @@ use crate::planning::admit;
 use crate::probing::refusal_of;
 use crate::reading::read_bytes;
 use crate::verifying::{commit_file, give_node, rebuild_file, verify_file};
-use raf_format::Algorithm;
+use raf_format::{Algorithm, Version};
 use raf_io::{Error, ErrorKind, RafIo, RafRng, Reason};
 use raf_tree::MerkleHasher;
 use std::marker::Model;
@@ -130,10 +131,14 @@ impl<A: Algorithm, I: RafIo, R: RafRng, H: MerkleHasher> Raf<A, I, R, H> {
     }
 
     /// The layout's version.
-    pub fn version(&self) -> u8
-        ensures { result ≡ self.now.header.version }
+    pub fn version(&self) -> Version
+        ensures { version_number result ≡ self.now.header.version }
     {
-        self.file.header.version
+        if self.file.header.version == 2 {
+            Version::V2
+        } else {
+            Version::V1
+        }
     }
 
     /// Whether the file can be this long: its storage has then fewer than 2^64 bytes, and its chunks have room in the hasher's tree,

@@ -4,7 +4,6 @@ ghost use Rattle.std.specs.Prelude.{true};
 ghost use Rattle.std.specs.Option.{option_map};
 ghost use Rattle.counts.specs.Counts.{Rose};
 ghost use Rattle.raf_tree.specs.Kept.{Kept, kept, tree_height};
-ghost use Rattle.raf_tree.specs.Steps.{Built};
 ghost use Rattle.raf_format.specs.Cipher.{cipher_of};
 ghost use Rattle.raf_format.specs.File.{chunk_count, chunk_len};
 ghost use Rattle.raf_format.specs.Version.{tag_len_of};
@@ -14,7 +13,6 @@ ghost use Rattle.raf.specs.Carry.{SameTree, OfTrees};
 ghost use Rattle.raf.specs.Outside.{Quiet, Caused, Moved, Kept as Kept_};
 ghost use Rattle.raf.specs.Loaded.{Sound};
 ghost use Rattle.raf.specs.Opening.{TreeMade, WhyNoTree};
-ghost use Rattle.raf.specs.Given.{Asked};
 ghost use Rattle.raf.specs.Growing.{Grew, LeavesSoFar, LeavesStopped};
 
 use crate::loading::{chunk_of, load};
@@ -47,102 +45,6 @@ pub fn tree_for<H: MerkleHasher>(
         Err(TreeError::MaxChunks) => Err(Error::InvalidArgument(Reason::MaxChunks)),
         Err(TreeError::Overflow) => Err(Error::Overflow),
         Err(TreeError::OutOfMemory) => Err(Error::OutOfMemory),
-    }
-}
-
-impl<I: RafIo, R: RafRng, H: MerkleHasher> Parts<I, R, H> {
-    /// Makes every node anew from the leaves below `count`, which are put, where there is a tree.
-    pub fn build(&mut self, tree: &mut Option<Tree>, count: u64) -> Result<(), Error>
-        requires paired { Paired H.hashing self.old.setting tree.old }
-        requires room { HasRoom count tree.old }
-        ensures built { OnOk result (OfTrees H.hashing self.old.setting tree.old tree.new (λ K t u. Built K count t u)) }
-        ensures shapes { SameTree tree.old tree.new }
-        ensures kept { Kept_ self.old self.new }
-        ensures failed { IfErr result (λ e. (kind_of e ≡ ErrorKind.Hash) × Caused ErrorKind.Hash self.old self.new
-            × Rose self.old.calls self.new.calls) }
-        ensures quiet { OnOk result (Quiet self.old self.new) }
-        ensures moved { Moved self.old self.new 0 0 0 0 (self.new.calls - self.old.calls) }
-        ensures there { OnErr result (is_some self.old.setting ≡ true) }
-        ensures one { count ≡ 0 → self.new.calls ≤ self.old.calls + 1 }
-        ensures calls { (t : Kept) → tree.old ≡ Some t → self.new.calls ≤ self.old.calls + count + 2 * tree_height t + 1 }
-        ensures strays { self.new.strays ≡ self.old.strays }
-    {
-        if let Some(hasher) = &mut self.hasher {
-            if let Some(tree) = tree {
-                return match tree.build::<H>(hasher, count) {
-                    Ok(()) => Ok(()),
-                    Err(_) => Err(Error::Hash),
-                };
-            }
-        }
-        Ok(())
-    }
-}
-
-impl<I: RafIo, R: RafRng, H: MerkleHasher> Parts<I, R, H> {
-    /// Whether a chunk's leaf is the one that is kept at its index. There is a hasher.
-    pub fn is_leaf(&mut self, tree: &Tree, index: u64, chunk: &[u8]) -> Result<bool, Error>
-        requires paired { Paired H.hashing self.old.setting (Some tree.now) }
-        requires index { index < tree.now.max_chunks }
-        requires chunk { length chunk.now ≤ 2 ^ 60 }
-        ensures same { IfOk result (λ r. (x : List ℕ) → self.old.setting ≡ Some x
-            → (r ≡ true → (H.hashing x).leaf chunk.now index ≡ kept tree.now 0 index)
-            × (r ≡ false → (H.hashing x).leaf chunk.now index ≡ kept tree.now 0 index → ⊥)) }
-        ensures kept { Kept_ self.old self.new }
-        ensures failed { IfErr result (λ e. (kind_of e ≡ ErrorKind.Hash) × Caused ErrorKind.Hash self.old self.new) }
-        ensures quiet { OnOk result (Quiet self.old self.new) }
-        ensures moved { Moved self.old self.new 0 0 0 0 1 }
-        ensures strays { self.new.strays ≡ self.old.strays }
-    {
-        let Some(hasher) = &mut self.hasher else {
-            return Ok(false);
-        };
-        let kept = tree.leaf(index);
-        let mut room = [0u8; 64];
-        let (leaf, _) = room.split_at_mut(kept.len());
-        match hasher.hash_leaf(leaf, chunk, index) {
-            Ok(()) => Ok(leaf[..] == kept[..]),
-            Err(_) => Err(Error::Hash),
-        }
-    }
-
-    /// Puts the commitment to a tree's root, a file's id and its size into `out`, which has a hash's length. There is a hasher.
-    pub fn commit(&mut self, tree: &Tree, out: &mut [u8], id: &[u8], size: u64) -> Result<(), Error>
-        requires paired { Paired H.hashing self.old.setting (Some tree.now) }
-        requires out { length out.old ≡ tree.now.hash_len }
-        requires id { length id.now ≤ 2 ^ 60 }
-        ensures commitment { OnOk result ((x : List ℕ) → self.old.setting ≡ Some x
-            → out.new ≡ (H.hashing x).commitment (kept tree.now (tree_height tree.now) 0) id.now size) }
-        ensures kept { Kept_ self.old self.new }
-        ensures failed { IfErr result (λ e. (kind_of e ≡ ErrorKind.Hash) × Caused ErrorKind.Hash self.old self.new) }
-        ensures quiet { OnOk result (Quiet self.old self.new) }
-        ensures moved { Moved self.old self.new 0 0 0 0 1 }
-        ensures strays { self.new.strays ≡ self.old.strays }
-    {
-        let Some(hasher) = &mut self.hasher else {
-            return Ok(());
-        };
-        match hasher.hash_commitment(out, tree.root(), id, size) {
-            Ok(()) => Ok(()),
-            Err(_) => Err(Error::Hash),
-        }
-    }
-
-    /// Puts the hash of a place with no chunk below it into `out`, which has a hash's length. There is a hasher.
-    pub fn empty(&mut self, out: &mut [u8], level: u32, index: u64) -> Result<(), Error>
-        requires out { (x : List ℕ) → self.old.setting ≡ Some x → length out.old ≡ (H.hashing x).len }
-        ensures empty { OnOk result ((x : List ℕ) → self.old.setting ≡ Some x → out.new ≡ (H.hashing x).empty level index) }
-        ensures failed { IfErr result (λ e. (kind_of e ≡ ErrorKind.Hash) × Rose self.old.hash_faults self.new.hash_faults) }
-        ensures quiet { OnOk result (self.new.hash_faults ≡ self.old.hash_faults) }
-        ensures asked { Asked 1 self.old self.new }
-    {
-        let Some(hasher) = &mut self.hasher else {
-            return Ok(());
-        };
-        match hasher.hash_empty(out, level, index) {
-            Ok(()) => Ok(()),
-            Err(_) => Err(Error::Hash),
-        }
     }
 }
 

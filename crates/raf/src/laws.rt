@@ -1,8 +1,9 @@
 //! What a user of the crate may rest on beside the calls.
-ghost use Rattle.std.specs.Prelude.{◌≡◌, List, ℕ, length, take, Some, OnOk};
+ghost use Rattle.std.specs.Prelude.{◌≡◌, ◌+◌, ◌^◌, ◌<◌, ◌≤◌, length, OnOk};
+ghost use Rattle.raf_io.specs.Storage.{spliced};
 ghost use Rattle.raf_format.specs.Cipher.{cipher_of};
 ghost use Rattle.raf_format.specs.File.{File, file_of};
-ghost use Rattle.raf.specs.Handle.{Holds};
+ghost use Rattle.raf.specs.Handle.{Holds, HoldsAgain};
 ghost use Rattle.raf.specs.Complete.{Complete};
 ghost use Rattle.raf.specs.Content.{Contents};
 ghost use Rattle.raf.specs.Stepped.{Stepped, write_reply};
@@ -16,15 +17,28 @@ use std::io::SeekFrom;
 
 /// After `storage_mut`: where the storage's first 96 bytes and its length are as before, and key and header are those kept, the handle
 /// holds the file that the bytes are now.
-pub fn holds_again<A: Algorithm, I: RafIo, R: RafRng, H: MerkleHasher>(
-    before: &Raf<A, I, R, H>,
-    after: &Raf<A, I, R, H>,
-)
-    ensures { (F : File) (c : List ℕ) (held : Holds (cipher_of A.variant) before.now F) → after.now.key ≡ before.now.key
-        → after.now.header ≡ before.now.header → after.now.outside.bytes ≡ Some c
-        → take 96 c ≡ take 96 held.bytes → length c ≡ length held.bytes
-        → Holds (cipher_of A.variant) after.now (file_of (cipher_of A.variant) after.now.key after.now.header c) }
+pub fn holds_again<A: Algorithm>()
+    ensures { HoldsAgain (cipher_of A.variant) }
 {}
+
+/// Puts bytes behind the header, through `storage_mut`, in place of as many that the storage holds: the file is then what the storage holds.
+pub fn put_behind<A: Algorithm, I: RafIo, R: RafRng, H: MerkleHasher>(
+    file: &mut Raf<A, I, R, H>,
+    bytes: &[u8],
+    offset: u64,
+) -> Result<(), Error>
+    requires behind { 96 ≤ offset }
+    requires end { offset + length bytes.now < 2 ^ 64 }
+    ensures { (F : File) (held : Holds (cipher_of A.variant) file.old F) → offset + length bytes.now ≤ length held.bytes
+        → OnOk result (Holds (cipher_of A.variant) file.new
+        (file_of (cipher_of A.variant) file.old.key file.old.header (spliced offset bytes.now held.bytes))) }
+{
+    holds_again::<A>();
+    match file.storage_mut().write_at(bytes, offset) {
+        Ok(()) => Ok(()),
+        Err(fault) => Err(Error::Io(fault)),
+    }
+}
 
 /// Valid input and no fault: on an open file without the kept mark every valid command is answered, whatever memory there is; and a file
 /// is opened or made, and a session answered, but for want of memory.

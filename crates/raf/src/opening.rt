@@ -73,8 +73,8 @@ pub fn count_of(header: &Header) -> u64
     }
 }
 
-// How many bytes the storage of a file has, or None exactly where that is no `u64`.
-fn layout_of<A: Algorithm>(header: &Header) -> Option<u64>
+/// How many bytes the storage of a file has, or None exactly where that is no `u64`.
+pub fn layout_of<A: Algorithm>(header: &Header) -> Option<u64>
     requires least { 16 ≤ header.now.chunk_size }
     requires most { header.now.chunk_size ≤ 1048576 }
     ensures { MatchOption result (2 ^ 64 ≤ layout_len (shape_of (cipher_of A.variant) header.now) header.now.file_size)

@@ -1,12 +1,13 @@
 //! The storage, the random source and the hasher of a file, seen together.
-ghost use Rattle.std.specs.Prelude.{◌≡◌, ◌+◌, ◌-◌, ◌^◌, ◌<◌, ◌≤◌, max, ⊤, List, ℕ, length, Some, None, true, IfOk, IfErr, OnOk, OnErr};
+ghost use Rattle.std.specs.Prelude.{◌≡◌, ◌+◌, ◌-◌, ◌*◌, ◌^◌, ◌<◌, ◌≤◌, max, ⊤, List, ℕ, length, Some, None, is_some, true, false, IfOk, IfErr, OnOk, OnErr};
 ghost use Rattle.std.specs.Option.{option_map};
 ghost use Rattle.counts.specs.Counts.{raised, Rose};
 ghost use Rattle.raf_io.specs.Storage.{spliced, resized, Told, ReadsFrom, Torn, Cut, IsLengthOf, Strays, SyncedTo};
 ghost use Rattle.raf_io.specs.Source.{Takes, TakesAtMost, IsShort};
 ghost use Rattle.raf_tree.specs.Kept.{Kept, kept, tree_height};
-ghost use Rattle.raf_tree.specs.Steps.{Updated, UpdateCalls};
-ghost use Rattle.raf.specs.Handle.{Paired};
+ghost use Rattle.raf_tree.specs.Steps.{Built, Updated, UpdateCalls};
+ghost use Rattle.raf.specs.Given.{Asked};
+ghost use Rattle.raf.specs.Handle.{Paired, HasRoom};
 ghost use Rattle.raf.specs.Outside.{Quiet, Caused, Moved, counted, Kept as Kept_};
 ghost use Rattle.raf.specs.Carry.{SameTree, OfTrees, Leafed, HasTree};
 ghost use Rattle.raf_io.specs.Kinds.{kind_of};
@@ -52,7 +53,7 @@ impl<I: RafIo, R: RafRng, H: MerkleHasher> Model for Parts<I, R, H> {
 
 impl<I: RafIo, R: RafRng, H: MerkleHasher> Parts<I, R, H> {
     /// How long the storage is.
-    pub fn size(&mut self) -> Result<u64, Error>
+    pub(crate) fn size(&mut self) -> Result<u64, Error>
         ensures size { IfOk result (IsLengthOf self.old.bytes) }
         ensures kept { Kept_ self.old self.new }
         ensures failed { IfErr result (λ e. (kind_of e ≡ ErrorKind.Io) × Caused ErrorKind.Io self.old self.new) }
@@ -67,7 +68,7 @@ impl<I: RafIo, R: RafRng, H: MerkleHasher> Parts<I, R, H> {
     }
 
     /// Reads at an offset.
-    pub fn read(&mut self, buf: &mut [u8], offset: u64) -> Result<(), Error>
+    pub(crate) fn read(&mut self, buf: &mut [u8], offset: u64) -> Result<(), Error>
         requires { offset + length buf.old < 2 ^ 64 }
         ensures read { OnOk result (ReadsFrom self.old.bytes offset buf.new) }
         ensures kept { Kept_ self.old self.new }
@@ -83,7 +84,7 @@ impl<I: RafIo, R: RafRng, H: MerkleHasher> Parts<I, R, H> {
     }
 
     /// Writes at an offset.
-    pub fn write(&mut self, bytes: &[u8], offset: u64) -> Result<(), Error>
+    pub(crate) fn write(&mut self, bytes: &[u8], offset: u64) -> Result<(), Error>
         requires { offset + length bytes.now < 2 ^ 64 }
         ensures written { OnOk result (self.new.bytes ≡ option_map (spliced offset bytes.now) self.old.bytes) }
         ensures torn { OnErr result (Told (Torn offset (length bytes.now)) self.old.bytes self.new.bytes) }
@@ -101,7 +102,7 @@ impl<I: RafIo, R: RafRng, H: MerkleHasher> Parts<I, R, H> {
     }
 
     /// Cuts the storage, or adds zeros to it.
-    pub fn resize(&mut self, size: u64) -> Result<(), Error>
+    pub(crate) fn resize(&mut self, size: u64) -> Result<(), Error>
         ensures resized { OnOk result (self.new.bytes ≡ option_map (resized size) self.old.bytes) }
         ensures cut { OnErr result (Told (Cut size) self.old.bytes self.new.bytes) }
         ensures left { self.new.left ≡ self.old.left }
@@ -118,7 +119,7 @@ impl<I: RafIo, R: RafRng, H: MerkleHasher> Parts<I, R, H> {
     }
 
     /// Fills with random bytes.
-    pub fn fill(&mut self, buf: &mut [u8]) -> Result<(), Error>
+    pub(crate) fn fill(&mut self, buf: &mut [u8]) -> Result<(), Error>
         ensures taken { OnOk result (Takes self.old.left buf.new self.new.left) }
         ensures kept_left { OnErr result (TakesAtMost self.old.left (length buf.old) self.new.left) }
         ensures bytes { self.new.bytes ≡ self.old.bytes }
@@ -133,7 +134,7 @@ impl<I: RafIo, R: RafRng, H: MerkleHasher> Parts<I, R, H> {
     }
 
     /// Makes the storage durable.
-    pub fn sync(&mut self) -> Result<(), Error>
+    pub(crate) fn sync(&mut self) -> Result<(), Error>
         ensures synced { OnOk result (Told (SyncedTo self.old.bytes) self.old.durable self.new.durable) }
         ensures bytes { self.new.bytes ≡ self.old.bytes }
         ensures left { self.new.left ≡ self.old.left }
@@ -149,7 +150,7 @@ impl<I: RafIo, R: RafRng, H: MerkleHasher> Parts<I, R, H> {
     }
 
     /// Puts the leaf of a chunk into the tree, where there is one.
-    pub fn put_leaf(
+    pub(crate) fn put_leaf(
         &mut self,
         tree: &mut Option<Tree>,
         index: u64,
@@ -183,7 +184,7 @@ impl<I: RafIo, R: RafRng, H: MerkleHasher> Parts<I, R, H> {
     }
 
     /// Makes the nodes of the tree above a range of leaves anew, where there is one.
-    pub fn update_tree(
+    pub(crate) fn update_tree(
         &mut self,
         tree: &mut Option<Tree>,
         count: u64,
@@ -214,5 +215,103 @@ impl<I: RafIo, R: RafRng, H: MerkleHasher> Parts<I, R, H> {
             }
         }
         Ok(())
+    }
+
+    /// Makes every node anew from the leaves below `count`, which are put, where there is a tree.
+    pub(crate) fn build(&mut self, tree: &mut Option<Tree>, count: u64) -> Result<(), Error>
+        requires paired { Paired H.hashing self.old.setting tree.old }
+        requires room { HasRoom count tree.old }
+        ensures built { OnOk result (OfTrees H.hashing self.old.setting tree.old tree.new (λ K t u. Built K count t u)) }
+        ensures shapes { SameTree tree.old tree.new }
+        ensures kept { Kept_ self.old self.new }
+        ensures failed { IfErr result (λ e. (kind_of e ≡ ErrorKind.Hash) × Caused ErrorKind.Hash self.old self.new
+            × Rose self.old.calls self.new.calls) }
+        ensures quiet { OnOk result (Quiet self.old self.new) }
+        ensures moved { Moved self.old self.new 0 0 0 0 (self.new.calls - self.old.calls) }
+        ensures there { OnErr result (is_some self.old.setting ≡ true) }
+        ensures one { count ≡ 0 → self.new.calls ≤ self.old.calls + 1 }
+        ensures calls { (t : Kept) → tree.old ≡ Some t → self.new.calls ≤ self.old.calls + count + 2 * tree_height t + 1 }
+        ensures strays { self.new.strays ≡ self.old.strays }
+    {
+        if let Some(hasher) = &mut self.hasher {
+            if let Some(tree) = tree {
+                return match tree.build::<H>(hasher, count) {
+                    Ok(()) => Ok(()),
+                    Err(_) => Err(Error::Hash),
+                };
+            }
+        }
+        Ok(())
+    }
+
+    /// Whether a chunk's leaf is the one that is kept at its index. There is a hasher.
+    pub(crate) fn is_leaf(&mut self, tree: &Tree, index: u64, chunk: &[u8]) -> Result<bool, Error>
+        requires paired { Paired H.hashing self.old.setting (Some tree.now) }
+        requires index { index < tree.now.max_chunks }
+        requires chunk { length chunk.now ≤ 2 ^ 60 }
+        ensures same { IfOk result (λ r. (x : List ℕ) → self.old.setting ≡ Some x
+            → (r ≡ true → (H.hashing x).leaf chunk.now index ≡ kept tree.now 0 index)
+            × (r ≡ false → (H.hashing x).leaf chunk.now index ≡ kept tree.now 0 index → ⊥)) }
+        ensures kept { Kept_ self.old self.new }
+        ensures failed { IfErr result (λ e. (kind_of e ≡ ErrorKind.Hash) × Caused ErrorKind.Hash self.old self.new) }
+        ensures quiet { OnOk result (Quiet self.old self.new) }
+        ensures moved { Moved self.old self.new 0 0 0 0 1 }
+        ensures strays { self.new.strays ≡ self.old.strays }
+    {
+        let Some(hasher) = &mut self.hasher else {
+            return Ok(false);
+        };
+        let kept = tree.leaf(index);
+        let mut room = [0u8; 64];
+        let (leaf, _) = room.split_at_mut(kept.len());
+        match hasher.hash_leaf(leaf, chunk, index) {
+            Ok(()) => Ok(leaf[..] == kept[..]),
+            Err(_) => Err(Error::Hash),
+        }
+    }
+
+    /// Puts the commitment to a tree's root, a file's id and its size into `out`, which has a hash's length. There is a hasher.
+    pub(crate) fn commit(
+        &mut self,
+        tree: &Tree,
+        out: &mut [u8],
+        id: &[u8],
+        size: u64,
+    ) -> Result<(), Error>
+        requires paired { Paired H.hashing self.old.setting (Some tree.now) }
+        requires out { length out.old ≡ tree.now.hash_len }
+        requires id { length id.now ≤ 2 ^ 60 }
+        ensures commitment { OnOk result ((x : List ℕ) → self.old.setting ≡ Some x
+            → out.new ≡ (H.hashing x).commitment (kept tree.now (tree_height tree.now) 0) id.now size) }
+        ensures kept { Kept_ self.old self.new }
+        ensures failed { IfErr result (λ e. (kind_of e ≡ ErrorKind.Hash) × Caused ErrorKind.Hash self.old self.new) }
+        ensures quiet { OnOk result (Quiet self.old self.new) }
+        ensures moved { Moved self.old self.new 0 0 0 0 1 }
+        ensures strays { self.new.strays ≡ self.old.strays }
+    {
+        let Some(hasher) = &mut self.hasher else {
+            return Ok(());
+        };
+        match hasher.hash_commitment(out, tree.root(), id, size) {
+            Ok(()) => Ok(()),
+            Err(_) => Err(Error::Hash),
+        }
+    }
+
+    /// Puts the hash of a place with no chunk below it into `out`, which has a hash's length. There is a hasher.
+    pub(crate) fn empty(&mut self, out: &mut [u8], level: u32, index: u64) -> Result<(), Error>
+        requires out { (x : List ℕ) → self.old.setting ≡ Some x → length out.old ≡ (H.hashing x).len }
+        ensures empty { OnOk result ((x : List ℕ) → self.old.setting ≡ Some x → out.new ≡ (H.hashing x).empty level index) }
+        ensures failed { IfErr result (λ e. (kind_of e ≡ ErrorKind.Hash) × Rose self.old.hash_faults self.new.hash_faults) }
+        ensures quiet { OnOk result (self.new.hash_faults ≡ self.old.hash_faults) }
+        ensures asked { Asked 1 self.old self.new }
+    {
+        let Some(hasher) = &mut self.hasher else {
+            return Ok(());
+        };
+        match hasher.hash_empty(out, level, index) {
+            Ok(()) => Ok(()),
+            Err(_) => Err(Error::Hash),
+        }
     }
 }

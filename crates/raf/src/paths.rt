@@ -1,6 +1,5 @@
 //! Encrypted files at paths of the host.
-ghost use Rattle.std.specs.Prelude.{◌≡◌, ◌≢◌, Some, None, true, IfOk, IfErr};
-ghost use Rattle.std.specs.IoError.{error_kind};
+ghost use Rattle.std.specs.Prelude.{◌≡◌, Some, None, true, IfOk, IfErr};
 ghost use Rattle.raf_format.specs.Cipher.{cipher_of};
 ghost use Rattle.raf_io.specs.Kinds.{kind_of};
 ghost use Rattle.raf.specs.Opening.{Made, NotMade, Opened, NotOpened};
@@ -31,9 +30,7 @@ pub struct PathError<R: RafRng> {
 
 // What the host said where it opened no file.
 fn error_of(fault: io::Error) -> Error
-    ensures missing { error_kind fault ≡ IoKind.NotFound → result ≡ Error.NotFound }
-    ensures other { error_kind fault ≢ IoKind.NotFound → result ≡ Error.Io fault }
-    ensures host { IsOfHost result }
+    ensures { IsOfHost fault result }
 {
     if fault.kind() == IoKind::NotFound {
         Error::NotFound
@@ -45,7 +42,7 @@ fn error_of(fault: io::Error) -> Error
 impl<R: RafRng> PathError<R> {
     // The host opened no file.
     fn unopened(fault: io::Error, rng: R) -> PathError<R>
-        ensures error { IsOfHost result.error }
+        ensures error { IsOfHost fault result.error }
         ensures io { result.io ≡ None }
         ensures rng { result.rng ≡ rng }
     {

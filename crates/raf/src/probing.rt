@@ -48,8 +48,8 @@ pub fn derive_key<const KEY_LEN: usize>(
     }
 }
 
-// How long a storage is.
-fn size_of<I: RafIo>(io: &mut I) -> Result<u64, Error>
+/// How long a storage is.
+pub fn size_of<I: RafIo>(io: &mut I) -> Result<u64, Error>
     ensures size { IfOk result (λ size. IsLengthOf (I.bytes io.old) size) }
     ensures failed { IfErr result (λ e. (kind_of e ≡ ErrorKind.Io) × Caused ErrorKind.Io (alone I.RafIo io.old) (alone I.RafIo io.new)) }
     ensures quiet { OnOk result (Quiet (alone I.RafIo io.old) (alone I.RafIo io.new)) }
@@ -63,8 +63,8 @@ fn size_of<I: RafIo>(io: &mut I) -> Result<u64, Error>
     }
 }
 
-// Reads the first bytes of a storage.
-fn read_head<I: RafIo>(io: &mut I, buf: &mut [u8]) -> Result<(), Error>
+/// Reads the first bytes of a storage.
+pub fn read_head<I: RafIo>(io: &mut I, buf: &mut [u8]) -> Result<(), Error>
     requires { length buf.old ≡ 96 }
     ensures read { OnOk result (ReadsFrom (I.bytes io.old) 0 buf.new) }
     ensures failed { IfErr result (λ e. (kind_of e ≡ ErrorKind.Io) × Caused ErrorKind.Io (alone I.RafIo io.old) (alone I.RafIo io.new)) }

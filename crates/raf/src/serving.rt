@@ -4,9 +4,9 @@ ghost use Rattle.std.specs.Prelude.{IsTrue, ◌↔◌, ◌<◌, ◌^◌};
 ghost use Rattle.raf_format.specs.Cipher.{cipher_of};
 ghost use Rattle.raf.specs.Stepped.{Stepped, done_reply, write_reply, verify_reply};
 ghost use Rattle.raf.specs.Handle.{Handle, hash_len_of};
-ghost use Rattle.raf.specs.Session.{room_of, room_for, room_total, Meets};
+ghost use Rattle.raf.specs.Session.{room_of, room_total, Meets};
 ghost use Rattle.raf.specs.Outside.{over_storage};
-ghost use Rattle.raf.specs.Ran.{Ended, Serves};
+ghost use Rattle.raf.specs.Ran.{room_for, Ended, Serves};
 
 use crate::builder::{OpenError, RafBuilder};
 use crate::command::{Command, Replies, Reply};

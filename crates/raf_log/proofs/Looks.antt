@@ -125,7 +125,7 @@ module _ (C : Cipher) (contents : Contents C) (E : List ℕ → Hashing) (old ne
       tree = (w.stays.bytes (inl refl)).1;
       broken = unmarked_after unmarked new.broken refl;
       bytes = (w.stays.bytes (inl refl)).0;
-      durable = w.stays.durable refl;
+      durable = w.stays.durable (inl refl);
       setting = (w.bounded (outline C old.header) (inr refl)).setting;
       left = λ F held. left_at F held (is_fault reply) refl;
       strays = w.strays;

@@ -19,8 +19,11 @@ use Rattle.raf.specs.Image.{asked_in, changes_in, traffic_in, calls_in}
 use Rattle.raf.specs.Outside.{Outside, Kept, Quiet, Moved}
 use Rattle.raf.specs.Handle.{Handle, Holds, WithTree, Grown, limit_of, hash_len_of, outline}
 use Rattle.raf.specs.Opening.{Settings, NotOpened, Opened, Room, opening_traffic, opening_calls}
-use Rattle.raf.specs.Session.{Ground, Whole, Faulted, CutShort, AllShaped, Ran, begun, asked_along}
-use Rattle.raf.specs.Ran.{ground, Ended}
+use Rattle.raf.specs.Loaded.{Sound}
+use Rattle.raf.specs.Session.{Ground, Whole, Faulted, begun}
+use Rattle.raf.specs.Unseen.{AllShaped, BoundedAlong, CutShort}
+use Rattle.raf.specs.Unseen.Mark.{Clear}
+use Rattle.raf.specs.Ran.{ground, Ended, Ran}
 use Rattle.raf.specs.declared.command.Command.{Command}
 use Rattle.raf.specs.declared.command.Reply.{Reply}
 use Rattle.raf_log.specs.Kinds.{log_kind, opening_refusal, opening_kind}
@@ -34,7 +37,7 @@ use Rattle.raf_log.specs.declared.command.LogReply.{LogReply}
 use Rattle.raf_log.specs.declared.error.LogError.{LogError}
 use Rattle.raf_log.specs.declared.error.LogErrorKind.{LogErrorKind}
 use Rattle.raf_log.specs.declared.error.LogErrorKind.TheVariants as log
-use Rattle.raf.proofs.Moves.{moved_then, moved_all, quiet_then, caused_later}
+use Rattle.raf.proofs.Moves.{moved_then, moved_less, quiet_then, caused_later}
 use Rattle.raf_log.proofs.Asked.{parts_even}
 use Rattle.raf_log.proofs.Sweeps.{fault_after}
 
@@ -272,10 +275,18 @@ module _ (C : Cipher) (E : List ℕ → Hashing) (key : List ℕ) (s : Settings)
             }
 
       -- over any storage
-      numbers : (now : LogHandle) (replies : List LogReply) → LogEnded C E l now commands replies → LogByNumbers s.most commands before now.file.outside replies
+      numbers : (now : LogHandle) (replies : List LogReply) → LogEnded C E l now commands replies → LogByNumbers C s.most commands before now.file.outside replies
       numbers now replies ended =
           let n = ended.ended.numbers unmarked in
-          let looked : Moved h.outside l.file.outside _ _ _ _ _ = lo.asked (outline C h.header) (inr refl) in
+          let N : File = outline C l.file.header in
+          let same = sym lo.looked.header in
+          let opening : Moved before h.outside (file_layout N) (opening_traffic s.most (file_layout N)) 0 0 (opening_calls s.most (chunk_count l.file.header.chunk_size l.file.header.file_size)) =
+          subst (λ (x : Header). Moved before h.outside (layout_len (shape_of C x) x.file_size) (opening_traffic s.most (layout_len (shape_of C x) x.file_size)) 0 0
+          (opening_calls s.most (chunk_count x.chunk_size x.file_size))) same opened.moved in
+          let swept : Moved h.outside l.file.outside (file_layout N) (pieces_traffic s.most N) 0 0 0 =
+          subst (λ (x : Header). Moved h.outside l.file.outside (file_layout (outline C x)) (pieces_traffic s.most (outline C x)) 0 0 0) same
+          (subst (λ (m : Option ℕ). Moved h.outside l.file.outside (file_layout (outline C h.header)) (pieces_traffic m (outline C h.header)) 0 0 0) opened.limit (lo.asked (outline C h.header) (inr refl))) in
+          let ran = subst (λ (m : Option ℕ). BoundedAlong m N ended.asks ended.answers l.file.outside now.file.outside) limit n.moved in
           record {
             extent = extent_of l;
             spaced = lo.spaced;
@@ -283,27 +294,21 @@ module _ (C : Cipher) (E : List ℕ → Hashing) (key : List ℕ) (s : Settings)
             answers = ended.answers;
             parts = ended.parts;
             file = record {
-              numbers = outline C l.file.header;
-              unknown = refl;
-              fits = subst (λ (x : Header). layout_len (shape_of C x) x.file_size < 2 ^ 64) (sym lo.looked.header) opened.fits;
+              header = l.file.header;
+              sound = subst (Sound C) same opened.sound;
               run = run ended.asks ended.answers n.run;
-              later = moved_all before now.file.outside _ _ _ _ _
-                  (moved_then before h.outside now.file.outside _ _ _ _ _ _ _ _ _ _ opened.looked.later (moved_then h.outside l.file.outside now.file.outside _ _ _ _ _ _ _ _ _ _ looked n.later));
-              asked = omega (
-                arith,
-                subst (λ (m : Option ℕ). now.file.outside.asked ≤ l.file.outside.asked + asked_along m (outline C l.file.header) ended.asks ended.answers) limit n.asked,
-                looked.asked_most,
-                opened.looked.later.asked_most,
-              );
+              moved = moved_less before now.file.outside _ _ _ _ _ _ _ _ _ _
+                  (moved_then before l.file.outside now.file.outside _ _ _ _ _ _ _ _ _ _ (moved_then before h.outside l.file.outside _ _ _ _ _ _ _ _ _ _ opening swept) ran)
+                  (omega arith) (omega arith) (omega arith) (omega arith) (omega arith);
             };
             size = refl;
           }
         where
           run : (asks : List Command) (answers : List Reply)
-              → (AllShaped (limit_of l.file) (outline C l.file.header) false asks answers × Quiet l.file.outside now.file.outside) ⊎ CutShort (limit_of l.file) (outline C l.file.header) asks l.file.outside now.file.outside answers
-              → (AllShaped s.most (outline C l.file.header) false asks answers × Quiet before now.file.outside) ⊎ CutShort s.most (outline C l.file.header) asks before now.file.outside answers
+              → (AllShaped (limit_of l.file) Clear (outline C l.file.header) asks answers × Quiet l.file.outside now.file.outside) ⊎ CutShort (limit_of l.file) (outline C l.file.header) asks l.file.outside now.file.outside answers
+              → (AllShaped s.most Clear (outline C l.file.header) asks answers × Quiet before now.file.outside) ⊎ CutShort s.most (outline C l.file.header) asks before now.file.outside answers
           run asks answers (inl whole) = inl (
-            subst (λ (m : Option ℕ). AllShaped m (outline C l.file.header) false asks answers) limit whole.0,
+            subst (λ (m : Option ℕ). AllShaped m Clear (outline C l.file.header) asks answers) limit whole.0,
             quiet_then before l.file.outside now.file.outside quiet whole.1,
           )
           run asks answers (inr cut) = inr (subst (λ (m : Option ℕ). CutShort m (outline C l.file.header) asks before now.file.outside answers) limit (record {
@@ -329,7 +334,7 @@ module _ (C : Cipher) (E : List ℕ → Hashing) (key : List ℕ) (s : Settings)
             fits = fits;
             answered = λ b tells. ran b tells now replies serves.answered.1;
             numbers = by;
-            setting = by.file.later.setting;
+            setting = by.file.moved.setting;
           })
       served after (Err e) fits serves =
           subst (λ (o : Outside). LogMeets C E key s commands before o (Err e)) (sym serves.none.1) (record {

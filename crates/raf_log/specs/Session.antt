@@ -3,13 +3,14 @@ use Rattle.std.specs.Prelude.{◌≡◌, ℕ, ◌+◌, ◌^◌, ◌<◌, ◌≤�
 use Rattle.std.specs.Prelude.{Result, IfOk, IfErr, ⊤}
 use Rattle.raf_tree.specs.Hashing.{Hashing}
 use Rattle.raf_format.specs.Cipher.{Cipher}
-use Rattle.raf_format.specs.File.{File, Opens}
+use Rattle.raf_format.specs.File.{File, Opens, file_layout}
 use Rattle.raf.specs.Apply.{longest}
 use Rattle.raf.specs.Image.{asked_in, changes_in, traffic_in, calls_in}
 use Rattle.raf.specs.Outside.{Outside, Kept, Quiet, Caused}
 use Rattle.raf.specs.Handle.{hash_len_of}
-use Rattle.raf.specs.Opening.{Settings, NotOpened, Room, opening_calls}
-use Rattle.raf.specs.Session.{Ground, Whole, Faulted, ByNumbers}
+use Rattle.raf.specs.Opening.{Settings, NotOpened, Room, opening_calls, opening_traffic}
+use Rattle.raf.specs.Session.{Ground, Whole, Faulted}
+use Rattle.raf.specs.Unseen.{ByNumbers}
 use Rattle.raf.specs.declared.command.Command.{Command}
 use Rattle.raf.specs.declared.command.Reply.{Reply}
 use Rattle.raf_io.specs.declared.errors.ErrorKind.{ErrorKind}
@@ -102,14 +103,15 @@ module _ (G : Ground) where
     pub file : LogFileRan log.file b asks before after answers
 
 -- a session over any storage, for some entries: what was asked of the file, by its numbers; a fault by its count is the last reply
-pub record LogByNumbers (limit : Option ℕ) (commands : List LogCommand) (before after : Outside) (replies : List LogReply) : Type 0 where
+pub record LogByNumbers (C : Cipher) (limit : Option ℕ) (commands : List LogCommand) (before after : Outside) (replies : List LogReply)
+    : Type 0 where
   pub extent : Extent
   pub spaced : Spaced 0 extent.starts extent.size
   pub asks : List Command
   pub answers : List Reply
   pub parts : Parts extent (take (length replies) commands) replies asks answers
-  pub file : ByNumbers limit asks before after answers
-  pub size : file.numbers.size ≡ extent.size
+  pub file : ByNumbers C limit (λ N. opening_traffic limit (file_layout N) + pieces_traffic limit N) asks before after answers
+  pub size : file.header.file_size ≡ extent.size
 
 -- a session whose file was opened, and is no log, or for which no memory was found: no byte changed
 pub record NoLog (C : Cipher) (E : List ℕ → Hashing) (key : List ℕ) (s : Settings) (before after : Outside) (kind : LogErrorKind)
@@ -135,5 +137,5 @@ pub record LogMeets (C : Cipher) (E : List ℕ → Hashing) (key : List ℕ) (s 
   pub answered : (b : List ℕ) → before.bytes ≡ Some b
       → IfOk outcome (λ replies. LogRan (record { cipher = C; answers = E; setting = s.outside.setting; limit = s.most; key = key }) b
       commands before after replies)
-  pub numbers : IfOk outcome (λ replies. LogByNumbers s.most commands before after replies)
+  pub numbers : IfOk outcome (λ replies. LogByNumbers C s.most commands before after replies)
   pub setting : after.setting ≡ before.setting

@@ -12,6 +12,7 @@ use Rattle.raf.specs.Handle.{Handle, handle_of}
 use Rattle.raf.specs.Opening.{NotMade, Made, TreeMade}
 use Rattle.raf.proofs.HandedOn.{handed_on}
 use Rattle.raf.proofs.Headed.{made_for}
+use Rattle.raf.proofs.Headers.{version_range}
 use Rattle.raf.proofs.Places.{count_none}
 use Rattle.raf.proofs.Makings.{refused_storage, refused_source, refused_hasher, refused_write, made_file, small_layout}
 use Rattle.raf.proofs.creating.make_file.Goals as goal
@@ -114,6 +115,9 @@ of-requires-clause-sound g c =
     let C = cipher_of g.A.Algorithm.variant in
     let least : 16 ≤ c.args.fresh.now.chunk_size = omega (arith, c.if-fresh-lt16.false) in
     record {
+      version_least = (version_range _ c.number.ensures.version).0;
+      version_most = (version_range _ c.number.ensures.version).1;
+      algorithm = c.algorithm_number.ensures;
       least = least;
       most = omega (arith, c.if-fresh-gt1048576.false);
       below = small_layout _ least;

@@ -2,7 +2,7 @@ use Rattle.std.proofs.Common.{◌≡◌, ℕ, List, length, Option, sym, ◌∙�
 use Rattle.raf_io.specs.Storage.{IsLengthOf}
 use Rattle.raf_format.specs.Cipher.{cipher_of}
 use Rattle.raf.specs.Loaded.{Front}
-use Rattle.raf.proofs.Headers.{read_front, says_front, says_whole}
+use Rattle.raf.proofs.Headers.{read_front, says_front, says_whole, in_range_sound}
 use Rattle.raf.proofs.opening.find_header.Goals as goal
 
 pub returns-in-Err-clause-refused : goal.returns-in-Err-clause-refused
@@ -44,3 +44,8 @@ returns-in_default-2-clause-refused g c = λ b tells.
     let front : Front b got = read_front _ b got (c.size.ensures.kept.bytes ∙ tells) c.read.auto.buf c.in_ok-read.ensures.read in
     let long : length b ≡ c.in_ok-size.size = subst (λ (t : Option (List ℕ)). IsLengthOf t c.in_ok-size.size) tells c.in_ok-size.ensures.size in
     (k, says_whole b got k front c.in-Ok.ensures.found, omega (arith, c.if-header-algorithm_number.false, c.algorithm_number.ensures), λ fits. absurd (omega (arith, fits, long, c.in_default.ensures)))
+
+pub returns-in-Some-clause-sound : goal.returns-in-Some-clause-sound
+returns-in-Some-clause-sound g c =
+    let C = cipher_of g.A.Algorithm.variant in
+    in_range_sound C c.in-Ok.header c.in-Ok.ensures.found.fields (omega (arith, c.if-header-algorithm_number.false, c.algorithm_number.ensures)) (omega (arith, c.in-Some.ensures))

@@ -92,7 +92,7 @@ returns-clause-opened g c =
       key_is = refl;
       unmarked = refl;
       made = made;
-      fits = f.sound.below;
+      sound = f.sound;
       is_file = λ b tells. let found = f.found b tells in record {
         says = found.0.says;
         algorithm = found.0.algorithm;

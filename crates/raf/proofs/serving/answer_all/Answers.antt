@@ -3,8 +3,8 @@ use Rattle.std.specs.Option.{option_to_list}
 use Rattle.std.proofs.lemmas.List.{take_all, length-replicate}
 use Rattle.raf_format.specs.Cipher.{cipher_of}
 use Rattle.raf.specs.Handle.{hash_len_of}
-use Rattle.raf.specs.Session.{room_of, room_for}
-use Rattle.raf.specs.Ran.{Progress, Ended}
+use Rattle.raf.specs.Session.{room_of}
+use Rattle.raf.specs.Ran.{room_for, Progress, Ended}
 use Rattle.raf.specs.declared.command.Command.{Command}
 use Rattle.raf.specs.declared.command.Reply.{Reply}
 use Rattle.raf_format.proofs.Ciphers.{lawful}

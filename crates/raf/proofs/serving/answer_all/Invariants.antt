@@ -1,7 +1,7 @@
 use Rattle.std.proofs.Common.{◌≡◌, ◌≤◌, take, drop, map, length, vec_capacity, vec_len}
 use Rattle.raf_format.specs.Cipher.{cipher_of}
 use Rattle.raf.specs.Handle.{hash_len_of}
-use Rattle.raf.specs.Session.{room_for}
+use Rattle.raf.specs.Ran.{room_for}
 use Rattle.raf.specs.Ran.{Progress}
 use Rattle.raf.proofs.serving.answer_all.Given as goal
 

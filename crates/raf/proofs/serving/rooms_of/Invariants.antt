@@ -1,5 +1,5 @@
 use Rattle.std.proofs.Common.{◌≡◌, take, map}
-use Rattle.raf.specs.Session.{room_for}
+use Rattle.raf.specs.Ran.{room_for}
 use Rattle.raf.proofs.serving.rooms_of.Given as goal
 
 abbrev pub invariant-loop-command : goal.invariant-loop-command
