@@ -33,13 +33,15 @@ use Rattle.raf.specs.declared.command.Command.{Command}
 use Rattle.raf.specs.declared.command.Command.TheVariants as command
 use Rattle.raf.specs.declared.command.Reply.{Reply}
 use Rattle.raf.specs.declared.command.Reply.TheVariants.{Refused}
+use Rattle.raf_format.specs.Version.{version_number}
+use Rattle.raf_script.specs.declared.script.Randomness.{Randomness}
+use Rattle.raf_script.specs.declared.script.Randomness.TheVariants.{Random, Seed}
 use Rattle.raf_script.specs.declared.script.Start.{Start}
 use Rattle.raf_script.specs.declared.script.Start.TheVariants.{Storage, Create}
 use Rattle.raf_run.specs.Disk.{Disk, memory_of, over, disk_in}
-use Rattle.raf_run.specs.Ends.{Ground, BuilderOf, Served, ServedAnew, RefusedAnew, EndsOn, EndsInMemory, ground_of, told_by, first_bytes}
-use Rattle.raf_run.specs.Run.{outcome_status, memory_status, tells_io, last_status, refused_status, is_io, is_io_kind}
-use Rattle.raf_run.specs.Laws.{IsValidOn, IsValidAnew, IsValid, CanCreate, IsExcused, Completes, CompletesInMemory, new_header}
-use Rattle.raf_run.specs.declared.answer.End.{End}
+use Rattle.raf_run.specs.Ends.{Ground, BuilderOf, Served, ServedAnew, RefusedAnew, EndsOn, ground_of, told_by, first_bytes}
+use Rattle.raf_run.specs.Answers.{outcome_status, memory_status, tells_io, last_status, refused_status, is_io, is_io_kind}
+use Rattle.raf_run.specs.Laws.{IsReadyOn, IsValidOn, IsReadyAnew, IsValidAnew, IsValid, CanCreate, IsExcused, Completes, CompletesInMemory, new_header}
 use Rattle.raf_run.proofs.OneText.{taken_so_many, last_of, new_file}
 
 -- ---- no reply that is due is a fault
@@ -123,31 +125,38 @@ abbrev pub Excused : Outside → Outside → Result (List Reply) Error → Type 
 Excused old new outcome = (outcome_status outcome ≡ 7) ⊎ ((tells_io outcome ≡ true) × Rose old.io_faults new.io_faults)
 
 module _ (G : session.Ground) (F : File) (b : List ℕ) (cs : List Command) (random : List ℕ) (old new : Outside) (rs : List Reply) where
-  faulted_good : (f : Faulted G F b cs old new rs) → old.left ≡ Some random → old.exact ≡ true → new.hash_faults ≡ 0 → asked_in G.limit F cs ≤ length random → (kind : ErrorKind) → f.kind ≡ kind
-      → kind ≡ Io
-  faulted_good f left exact hash enough Io is = refl
-  faulted_good f left exact hash enough Rng is =
+  -- random bytes that are enough don't run out
+  enough_there : old.left ≡ Some random → old.exact ≡ true → asked_in G.limit F cs ≤ length random → (f : Faulted G F b cs old new rs) → f.kind ≡ Rng → ⊥
+  enough_there left exact enough f is =
       let drawn = taken_so_many (asked_in G.limit F f.done) random f.nonces f.middle f.course.drawn (subst (λ (l : Option (List ℕ)). Takes l f.nonces f.middle) left f.taken) in
       let all : asked_in G.limit F f.done + asked_by G.limit (file_after G.limit F f.done) f.command ≤ length random =
       let split : asked_in G.limit F (f.done ++ f.command ∷ f.rest) ≤ length random = subst (λ (all : List Command). asked_in G.limit F all ≤ length random) f.split enough in
       omega (arith, asked_split G.limit F f.done f.rest f.command, split) in
-      absurd (is_there (asked_in G.limit F f.done) (asked_by G.limit (file_after G.limit F f.done) f.command) random f.middle drawn.1 all (f.short is exact))
-  faulted_good f left exact hash enough Hash is = let caused : Caused Hash old new = subst (λ (k : ErrorKind). Caused k old new) is f.cause in absurd (no_hash old.hash_faults new.hash_faults hash caused.0)
-  faulted_good f left exact hash enough (InvalidArgument why) is = absurd (subst (λ (k : ErrorKind). Caused k old new) is f.cause)
-  faulted_good f left exact hash enough AuthenticationFailed is = absurd (subst (λ (k : ErrorKind). Caused k old new) is f.cause)
-  faulted_good f left exact hash enough AlreadyExists is = absurd (subst (λ (k : ErrorKind). Caused k old new) is f.cause)
-  faulted_good f left exact hash enough NotFound is = absurd (subst (λ (k : ErrorKind). Caused k old new) is f.cause)
-  faulted_good f left exact hash enough Overflow is = absurd (subst (λ (k : ErrorKind). Caused k old new) is f.cause)
-  faulted_good f left exact hash enough MerkleNotEnabled is = absurd (subst (λ (k : ErrorKind). Caused k old new) is f.cause)
-  faulted_good f left exact hash enough (CorruptedChunk index) is = absurd (subst (λ (k : ErrorKind). Caused k old new) is f.cause)
-  faulted_good f left exact hash enough Broken is = absurd (subst (λ (k : ErrorKind). Caused k old new) is f.cause)
-  faulted_good f left exact hash enough OutOfMemory is = absurd (subst (λ (k : ErrorKind). Caused k old new) is f.cause)
+      is_there (asked_in G.limit F f.done) (asked_by G.limit (file_after G.limit F f.done) f.command) random f.middle drawn.1 all (f.short is exact)
 
-  run_good : Whole G F b cs old new rs ⊎ Faulted G F b cs old new rs → old.left ≡ Some random → old.exact ≡ true → new.hash_faults ≡ 0 → asked_in G.limit F cs ≤ length random
+  -- a source that hasn't failed doesn't either
+  sure_there : new.rng_faults ≡ 0 → (f : Faulted G F b cs old new rs) → f.kind ≡ Rng → ⊥
+  sure_there sure f is = let caused : Caused Rng old new = subst (λ (k : ErrorKind). Caused k old new) is f.cause in no_hash old.rng_faults new.rng_faults sure caused.0
+
+  faulted_good : (f : Faulted G F b cs old new rs) → ((f : Faulted G F b cs old new rs) → f.kind ≡ Rng → ⊥) → new.hash_faults ≡ 0 → (kind : ErrorKind) → f.kind ≡ kind → kind ≡ Io
+  faulted_good f there hash Io is = refl
+  faulted_good f there hash Rng is = absurd (there f is)
+  faulted_good f there hash Hash is = let caused : Caused Hash old new = subst (λ (k : ErrorKind). Caused k old new) is f.cause in absurd (no_hash old.hash_faults new.hash_faults hash caused.0)
+  faulted_good f there hash (InvalidArgument why) is = absurd (subst (λ (k : ErrorKind). Caused k old new) is f.cause)
+  faulted_good f there hash AuthenticationFailed is = absurd (subst (λ (k : ErrorKind). Caused k old new) is f.cause)
+  faulted_good f there hash AlreadyExists is = absurd (subst (λ (k : ErrorKind). Caused k old new) is f.cause)
+  faulted_good f there hash NotFound is = absurd (subst (λ (k : ErrorKind). Caused k old new) is f.cause)
+  faulted_good f there hash Overflow is = absurd (subst (λ (k : ErrorKind). Caused k old new) is f.cause)
+  faulted_good f there hash MerkleNotEnabled is = absurd (subst (λ (k : ErrorKind). Caused k old new) is f.cause)
+  faulted_good f there hash (CorruptedChunk index) is = absurd (subst (λ (k : ErrorKind). Caused k old new) is f.cause)
+  faulted_good f there hash Broken is = absurd (subst (λ (k : ErrorKind). Caused k old new) is f.cause)
+  faulted_good f there hash OutOfMemory is = absurd (subst (λ (k : ErrorKind). Caused k old new) is f.cause)
+
+  run_good : Whole G F b cs old new rs ⊎ Faulted G F b cs old new rs → ((f : Faulted G F b cs old new rs) → f.kind ≡ Rng → ⊥) → new.hash_faults ≡ 0
       → (outcome_status (Ok rs) ≡ 0) ⊎ Excused old new (Ok rs)
-  run_good (inl w) left exact hash enough = inl (quiet_at rs (length rs - 1) (all_quiet G F cs rs w.course.played))
-  run_good (inr f) left exact hash enough =
-      let is : f.kind ≡ Io = faulted_good f left exact hash enough f.kind refl in
+  run_good (inl w) there hash = inl (quiet_at rs (length rs - 1) (all_quiet G F cs rs w.course.played))
+  run_good (inr f) there hash =
+      let is : f.kind ≡ Io = faulted_good f there hash f.kind refl in
       let last : slice_get rs (length rs - 1) ≡ Some (Refused f.kind) = ap (λ (l : List Reply). slice_get l (length l - 1)) f.last ∙ last_of f.answered (Refused f.kind) in
       let caused : Caused Io old new = subst (λ (k : ErrorKind). Caused k old new) is f.cause in
       inr (inr (ap is_io last ∙ ap is_io_kind is, caused.0))
@@ -256,19 +265,24 @@ excused Broken old new fault is = (cc)
 
 -- ---- sessions
 
-outcome_good : (G : Ground) → IsLawful G.cipher → (b : List ℕ) (cs : List Command) (random : List ℕ) (s : Settings) (old new : Outside) (outcome : Result (List Reply) Error)
-    → IsValidOn G b cs random → s.most ≡ G.most → s.outside.setting ≡ G.setting → old.setting ≡ G.setting → old.bytes ≡ Some b → old.left ≡ Some random → old.exact ≡ true → new.hash_faults ≡ 0
+-- a random source that doesn't fail: it has enough bytes, or it never does
+abbrev IsThere : (G : Ground) (b : List ℕ) (cs : List Command) → IsReadyOn G b cs → Outside → Outside → Type 0
+IsThere G b cs v old new = (rs : List Reply)
+    (f : Faulted (record { cipher = G.cipher; answers = G.answers; setting = G.setting; limit = G.most; key = G.key }) (file_of G.cipher G.key v.header b) b cs old new rs) → f.kind ≡ Rng → ⊥
+
+outcome_good : (G : Ground) → IsLawful G.cipher → (b : List ℕ) (cs : List Command) (s : Settings) (old new : Outside) (outcome : Result (List Reply) Error)
+    → (v : IsReadyOn G b cs) → s.most ≡ G.most → s.outside.setting ≡ G.setting → old.setting ≡ G.setting → old.bytes ≡ Some b → IsThere G b cs v old new → new.hash_faults ≡ 0
     → IfErr outcome (λ e. Refusal G.cipher G.answers G.key s cs old new (kind_of e))
     → IfOk outcome (λ replies. Answered (record { cipher = G.cipher; answers = G.answers; setting = s.outside.setting; limit = s.most; key = G.key }) b cs old new replies)
     → (outcome_status outcome ≡ 0) ⊎ Excused old new outcome
-outcome_good G law b cs random s old new (Ok rs) v most setting own bytes left exact hash refused answered =
+outcome_good G law b cs s old new (Ok rs) v most setting own bytes there hash refused answered =
     let K : session.Ground = record { cipher = G.cipher; answers = G.answers; setting = G.setting; limit = G.most; key = G.key } in
     let a : Answered K b cs old new rs = rw (← most, ← setting) answered in
     let F = file_of G.cipher G.key v.header b in
     let is : a.file ≡ F = opens_one G.cipher law G.key b a.file F a.opens (opens_of G.cipher law G.key b v.header v.is_file) in
     let run = subst (λ (f : File). Whole K f b cs old new rs ⊎ Faulted K f b cs old new rs) is a.run in
-    run_good K F b cs random old new rs run left exact hash v.enough
-outcome_good G law b cs random s old new (Err e) v most setting own bytes left exact hash refused answered = refusal_good refused
+    run_good K F b cs [] old new rs run (there rs) hash
+outcome_good G law b cs s old new (Err e) v most setting own bytes there hash refused answered = refusal_good refused
   where
     refusal_good : Refusal G.cipher G.answers G.key s cs old new (kind_of e) → (refused_status (kind_of e) ≡ 0) ⊎ Excused old new (Err e)
     refusal_good (inl p) = let many : 2 ^ 64 ≤ room_total (hash_len_of G.answers G.setting) cs = rw (← setting) p.0 in absurd (omega (arith, many, v.replies))
@@ -283,27 +297,36 @@ excused_on disk back o new outcome is (inl good) = inl good
 excused_on disk back o new outcome is (inr (inl seven)) = inr (inl seven)
 excused_on disk back o new outcome is (inr (inr io)) = inr (inr (io.0, rw (ap (λ (d : Disk). d.faults) is) io.1))
 
-served_good : (G : Ground) → IsLawful G.cipher → (b : List ℕ) (cs : List Command) (random : List ℕ) (s : Settings) (disk : Disk) (outcome : Result (List Reply) Error) (back : Disk)
-    → Served G s cs disk outcome back → IsValidOn G b cs random → s.most ≡ G.most → s.outside.setting ≡ G.setting → disk.bytes ≡ Some b → s.outside.left ≡ Some random → s.outside.exact ≡ true
+served_good : (G : Ground) → IsLawful G.cipher → (b : List ℕ) (cs : List Command) (s : Settings) (disk : Disk) (outcome : Result (List Reply) Error) (back : Disk)
+    → (p : Served G s cs disk outcome back) → (v : IsReadyOn G b cs) → s.most ≡ G.most → s.outside.setting ≡ G.setting → disk.bytes ≡ Some b → IsThere G b cs v (over disk s.outside) p.after
     → (outcome_status outcome ≡ 0) ⊎ IsExcused disk outcome back
-served_good G law b cs random s disk outcome back p v most setting bytes left exact =
+served_good G law b cs s disk outcome back p v most setting bytes there =
     excused_on disk back s.outside p.after outcome p.handed
-    (outcome_good G law b cs random s (over disk s.outside) p.after outcome v most setting setting bytes left exact p.sure.hash p.meets.refused (p.meets.answered b bytes))
+    (outcome_good G law b cs s (over disk s.outside) p.after outcome v most setting setting bytes there p.sure.hash p.meets.refused (p.meets.answered b bytes))
+
+-- enough random bytes are there
+told_there : (G : Ground) (b : List ℕ) (cs : List Command) (random : List ℕ) (v : IsValidOn G b cs random) (old new : Outside) → old.left ≡ Some random → old.exact ≡ true → IsThere G b cs v.ready old new
+told_there G b cs random v old new left exact rs =
+    enough_there (record { cipher = G.cipher; answers = G.answers; setting = G.setting; limit = G.most; key = G.key }) (file_of G.cipher G.key v.ready.header b) b cs random old new rs left exact v.enough
+
+-- and a generator always has some
+sure_of : (G : Ground) (b : List ℕ) (cs : List Command) (v : IsReadyOn G b cs) (old new : Outside) → new.rng_faults ≡ 0 → IsThere G b cs v old new
+sure_of G b cs v old new sure rs = sure_there (record { cipher = G.cipher; answers = G.answers; setting = G.setting; limit = G.most; key = G.key }) (file_of G.cipher G.key v.header b) b cs [] old new rs sure
 
 -- ---- new files
 
-pub not_made : (G : Ground) (size : ℕ) (random : List ℕ) (s : Settings) (disk : Disk) (new : Outside) (kind : ErrorKind) → CanCreate G size → BuilderOf G s → s.chunk_size ≡ size
-    → s.outside.left ≡ Some random → new.hash_faults ≡ 0 → NotMade G.answers s (over disk s.outside) new kind → ((kind ≡ Rng) × (length random < 32)) ⊎ (is_excuse kind ≡ true)
-not_made G size random s disk new kind can builder is left hash refused = go kind refused.why (not_hash (over disk s.outside) new kind hash refused.fault)
+unless_rng : (G : Ground) (size : ℕ) (s : Settings) (disk : Disk) (new : Outside) (kind : ErrorKind) → CanCreate G size → BuilderOf G s → s.chunk_size ≡ size
+    → new.hash_faults ≡ 0 → NotMade G.answers s (over disk s.outside) new kind → (kind ≡ Rng) ⊎ (is_excuse kind ≡ true)
+unless_rng G size s disk new kind can builder is hash refused = go kind refused.why (not_hash (over disk s.outside) new kind hash refused.fault)
   where
-    tree : (k : ErrorKind) → WhyNoTree G.answers s.outside.setting s.most 0 k → ((k ≡ Rng) × (length random < 32)) ⊎ (is_excuse k ≡ true)
+    tree : (k : ErrorKind) → WhyNoTree G.answers s.outside.setting s.most 0 k → (k ≡ Rng) ⊎ (is_excuse k ≡ true)
     tree k why = inr (no_tree G.answers s.outside.setting s.most 0 k (rw (builder.setting, builder.most) can.room) why)
 
-    go : (k : ErrorKind) → WhyNotMade G.answers s (over disk s.outside) k → (k ≡ Hash → ⊥) → ((k ≡ Rng) × (length random < 32)) ⊎ (is_excuse k ≡ true)
+    go : (k : ErrorKind) → WhyNotMade G.answers s (over disk s.outside) k → (k ≡ Hash → ⊥) → (k ≡ Rng) ⊎ (is_excuse k ≡ true)
     go (InvalidArgument reason.ChunkSize) why other = absurd (why (rw is can.chunk_size))
     go Io why other = inr refl
     go AlreadyExists why other = let odd : true ≡ false = sym builder.truncate ∙ why.1 in (cc)
-    go Rng why other = let few : length random < 32 = subst (λ (l : Option (List ℕ)). IsShort l 32) left (why.2 builder.exact) in inl (refl, few)
+    go Rng why other = inl refl
     go Hash why other = absurd (other refl)
     go (InvalidArgument reason.Header) why other = tree (InvalidArgument reason.Header) why.1
     go (InvalidArgument reason.UnknownAlgorithm) why other = tree (InvalidArgument reason.UnknownAlgorithm) why.1
@@ -322,6 +345,15 @@ not_made G size random s disk new kind can builder is left hash refused = go kin
     go (CorruptedChunk index) why other = tree (CorruptedChunk index) why.1
     go Broken why other = tree Broken why.1
     go OutOfMemory why other = inr refl
+
+pub not_made : (G : Ground) (size : ℕ) (random : List ℕ) (s : Settings) (disk : Disk) (new : Outside) (kind : ErrorKind) → CanCreate G size → BuilderOf G s → s.chunk_size ≡ size
+    → s.outside.left ≡ Some random → new.hash_faults ≡ 0 → NotMade G.answers s (over disk s.outside) new kind → ((kind ≡ Rng) × (length random < 32)) ⊎ (is_excuse kind ≡ true)
+not_made G size random s disk new kind can builder is left hash refused = elim (unless_rng G size s disk new kind can builder is hash refused) [
+  | inl rng ↦
+      let why : WhyNotMade G.answers s (over disk s.outside) Rng = subst (λ (k : ErrorKind). WhyNotMade G.answers s (over disk s.outside) k) rng refused.why in
+      inl (rng, subst (λ (l : Option (List ℕ)). IsShort l 32) left (why.2 builder.exact))
+  | inr may ↦ inr may
+]
 
 -- a fault after the file was made is one after the run began
 pub since : (disk : Disk) (file : Outside) (outcome : Result (List Reply) Error) (back : Disk) → file.io_faults ≡ disk.faults → (outcome_status outcome ≡ 0) ⊎ IsExcused (disk_in file) outcome back
@@ -345,7 +377,8 @@ anew_good G law size version cs random b s disk outcome back told bytes builder 
     let file = new_file G size version random b s disk p.file is_size is_version (builder.left ∙ told) bytes p.made in
     let exact : p.opener.outside.exact ≡ true = p.exact ∙ p.made.moved.exact ∙ builder.exact in
     since disk p.file.outside outcome back p.made.quiet.io
-    (served_good G law (new_header G size version random) cs (drop 32 random) p.opener (disk_in p.file.outside) outcome back p.served v.valid p.hasher.most p.hasher.setting file.bytes (p.left ∙ file.left) exact)
+    (served_good G law (new_header G size version random) cs p.opener (disk_in p.file.outside) outcome back p.served v.valid.ready p.hasher.most p.hasher.setting file.bytes
+    (told_there G (new_header G size version random) cs (drop 32 random) v.valid (over (disk_in p.file.outside) p.opener.outside) p.served.after (p.left ∙ file.left) exact))
 anew_good G law size version cs random b s disk outcome back told bytes builder is_size is_version v (inr p) =
     inr (refused_on disk back s.outside p.after outcome p.error p.refusal p.handed p.refused.fault
     (may (not_made G size random s disk p.after (kind_of p.error) v.can builder is_size (builder.left ∙ told) p.sure.hash p.refused)))
@@ -354,16 +387,60 @@ anew_good G law size version cs random b s disk outcome back told bytes builder 
     may (inl short) = absurd (omega (arith, short.1, v.id))
     may (inr is) = is
 
+-- the same by a generator. A file that was made is ready
+seeded_good : (G : Ground) → IsLawful G.cipher → (size version : ℕ) (cs : List Command) (b : List ℕ) (s : Settings) (disk : Disk) (outcome : Result (List Reply) Error) (back : Disk) → G.random ≡ None
+    → disk.bytes ≡ Some b → BuilderOf G s → s.chunk_size ≡ size → IsReadyAnew G size cs → ServedAnew G s cs disk outcome back ⊎ RefusedAnew G s disk outcome back
+    → (outcome_status outcome ≡ 0) ⊎ IsExcused disk outcome back
+seeded_good G law size version cs b s disk outcome back none bytes builder is_size v (inl p) =
+    let held = (p.made.holds b bytes).1 in
+    let stored : p.file.outside.bytes ≡ Some held.bytes = held.tells in
+    let is_file : IsFile G.cipher G.key held.bytes p.file.header = subst (λ (k : List ℕ). IsFile G.cipher k held.bytes p.file.header) p.made.key_is held.is_file in
+    let none_there : (file_of G.cipher G.key p.file.header held.bytes).chunks ≡ [] =
+    subst (λ (k : List ℕ). (file_of G.cipher k p.file.header held.bytes).chunks ≡ []) p.made.key_is (ap (λ (f : File). f.chunks) (sym held.file) ∙ (p.made.holds b bytes).2) in
+    let o = opens_of G.cipher law G.key held.bytes p.file.header is_file in
+    let same : o.header ≡ p.file.header = says_one held.bytes o.header p.file.header o.is_file.says is_file.says in
+    let count : chunk_count p.file.header.chunk_size p.file.header.file_size ≡ 0 =
+    ap (λ (h : Header). chunk_count h.chunk_size h.file_size) (sym same) ∙ sym o.count ∙ ap (λ (l : List (Option (List ℕ))). length l) none_there in
+    let ready : IsReadyOn G held.bytes cs = record {
+      header = p.file.header;
+      is_file = is_file;
+      room = subst (λ (n : ℕ). Room G.answers G.setting G.most n) (sym count) v.can.room;
+      present = λ _. ap (λ (l : List (Option (List ℕ))). none_missing (λ _. true) 0 l) none_there;
+      replies = v.replies;
+    } in
+    since disk p.file.outside outcome back p.made.quiet.io
+    (served_good G law held.bytes cs p.opener (disk_in p.file.outside) outcome back p.served ready p.hasher.most p.hasher.setting stored
+    (sure_of G held.bytes cs ready (over (disk_in p.file.outside) p.opener.outside) p.served.after (p.served.sure.rng none)))
+seeded_good G law size version cs b s disk outcome back none bytes builder is_size v (inr p) =
+    inr (refused_on disk back s.outside p.after outcome p.error p.refusal p.handed p.refused.fault
+    (may (unless_rng G size s disk p.after (kind_of p.error) v.can builder is_size p.sure.hash p.refused)))
+  where
+    may : (kind_of p.error ≡ Rng) ⊎ (is_excuse (kind_of p.error) ≡ true) → is_excuse (kind_of p.error) ≡ true
+    may (inl rng) =
+        let caused : Caused Rng (over disk s.outside) p.after = subst (λ (k : ErrorKind). RefusalFault k (over disk s.outside) p.after) rng p.refused.fault in
+        absurd (no_hash s.outside.rng_faults p.after.rng_faults (p.sure.rng none) caused.0)
+    may (inr is) = is
+
 ends_good : (G : Ground) → IsLawful G.cipher → (start : Start) (cs : List Command) (random b : List ℕ) (disk : Disk) (outcome : Result (List Reply) Error) (back : Disk) → G.random ≡ Some random → disk.bytes ≡ Some b
-    → IsValid G start cs b random → EndsOn G start cs disk outcome back → (outcome_status outcome ≡ 0) ⊎ IsExcused disk outcome back
+    → IsValid G start cs b (Random random) → EndsOn G start cs disk outcome back → (outcome_status outcome ≡ 0) ⊎ IsExcused disk outcome back
 ends_good G law (Storage x) cs random b disk outcome back told bytes v p =
-    served_good G law b cs random p.0 disk outcome back p.2 v p.1.most p.1.setting bytes (p.1.left ∙ told) p.1.exact
+    served_good G law b cs p.0 disk outcome back p.2 v.ready p.1.most p.1.setting bytes
+    (told_there G b cs random v (over disk p.0.outside) p.2.after (p.1.left ∙ told) p.1.exact)
 ends_good G law (Create size version) cs random b disk outcome back told bytes v p =
     anew_good G law size _ cs random b p.0 disk outcome back told bytes p.1 p.2 p.3 v p.4
 
+ends_seeded : (G : Ground) → IsLawful G.cipher → (start : Start) (cs : List Command) (seed b : List ℕ) (disk : Disk) (outcome : Result (List Reply) Error) (back : Disk) → G.random ≡ None → disk.bytes ≡ Some b
+    → IsValid G start cs b (Seed seed) → EndsOn G start cs disk outcome back → (outcome_status outcome ≡ 0) ⊎ IsExcused disk outcome back
+ends_seeded G law (Storage x) cs seed b disk outcome back none bytes v p =
+    served_good G law b cs p.0 disk outcome back p.2 v p.1.most p.1.setting bytes (sure_of G b cs v (over disk p.0.outside) p.2.after (p.2.sure.rng none))
+ends_seeded G law (Create size version) cs seed b disk outcome back none bytes v p = seeded_good G law size (version_number version) cs b p.0 disk outcome back none bytes p.1 p.2 v p.4
+
 pub completes : Completes
-completes s random b disk back outcome told bytes v p =
-    ends_good (ground_of s) (lawful (variant_of s.algorithm)) s.start s.commands random b disk outcome back (ap told_by told) bytes v p
+completes s b disk back outcome bytes v p = go s.randomness refl v
+  where
+    go : (r : Randomness) → s.randomness ≡ r → IsValid (ground_of s) s.start s.commands b r → (outcome_status outcome ≡ 0) ⊎ IsExcused disk outcome back
+    go (Random random) is v = ends_good (ground_of s) (lawful (variant_of s.algorithm)) s.start s.commands random b disk outcome back (ap told_by is) bytes v p
+    go (Seed seed) is v = ends_seeded (ground_of s) (lawful (variant_of s.algorithm)) s.start s.commands seed b disk outcome back (ap told_by is) bytes v p
 
 -- ---- in memory
 
@@ -377,5 +454,5 @@ memory_ends o disk back h = go (tells_io o) h
     go false (inr (inr io)) = let odd : false ≡ true = io.0 in (cc)
 
 pub completes_in_memory : CompletesInMemory
-completes_in_memory s random e told v p =
-    memory_ends e.outcome (memory_of (first_bytes s.start)) p.0 (completes s random (first_bytes s.start) (memory_of (first_bytes s.start)) p.0 e.outcome told refl v p.1)
+completes_in_memory s e v p =
+    memory_ends e.outcome (memory_of (first_bytes s.start)) p.0 (completes s (first_bytes s.start) (memory_of (first_bytes s.start)) p.0 e.outcome refl v p.1)

@@ -1,10 +1,10 @@
 -- What the demo's replies tell is what its number stands for.
-use Rattle.std.proofs.Common.{◌≡◌, ℕ, zero, suc, ◌+◌, ◌-◌, ◌*◌, ◌/◌, ◌%◌, ◌^◌, ◌<◌, ◌≤◌, min, max, Bool, true, false, cond, ◌&&◌, ◌||◌, List, [], ◌∷◌, ◌++◌, length, drop, get_or, replicate, Option, Some, None, Result, Ok, Err, refl, sym, ap, ◌∙◌, append_assoc, arith, subst, inl, inr}
+use Rattle.std.proofs.Common.{◌≡◌, ℕ, zero, suc, ◌+◌, ◌-◌, ◌*◌, ◌%◌, ◌^◌, ◌<◌, ◌≤◌, min, max, Bool, true, false, cond, ◌&&◌, List, [], ◌∷◌, ◌++◌, length, drop, get_or, replicate, Option, Some, None, Result, Ok, Err, refl, sym, ap, ◌∙◌, arith, subst, inl, inr}
 use Rattle.std.specs.Prelude.{◌⊎◌, IfOk, IfSome, if◌then◌else◌, nat_lt, nat_le, slice_get}
 use Rattle.std.specs.List.{sum}
 use Rattle.std.proofs.Math.Nat.{mod-lt}
 use Rattle.std.proofs.lemmas.List.Sums.{sum_by_from}
-use Rattle.std.proofs.lemmas.List.{length-append, length-replicate, append-nil, drop_more}
+use Rattle.std.proofs.lemmas.List.{length-append, length-replicate, drop_more}
 use Rattle.raf_io.specs.Storage.{spliced}
 use Rattle.raf_io.specs.declared.errors.Error.{Error}
 use Rattle.raf_io.specs.declared.errors.ErrorKind.{ErrorKind}
@@ -35,7 +35,7 @@ use Rattle.raf.specs.declared.command.Reply.TheVariants.{Bytes, Size, Refused}
 use Rattle.raf_script.specs.declared.script.Start.TheVariants.{Create}
 use Rattle.raf_run.specs.Disk.{Disk, over, disk_in}
 use Rattle.raf_run.specs.Demo.{write_offset, write_bytes, demo_write, demo_writes, demo_commands, demo_bytes, demo_report, Tells}
-use Rattle.raf_run.specs.Ends.{Ground, BuilderOf, Served, ServedAnew, RefusedAnew, EndsOn, answers_of, setting_of}
+use Rattle.raf_run.specs.Ends.{Ground, ServedAnew, RefusedAnew, EndsOn, answers_of, setting_of}
 use Rattle.raf_run.specs.declared.answer.Report.{Report}
 use Rattle.raf_run.proofs.OneText.{last_of}
 use Rattle.raf_run.proofs.PlainFiles.{IsPlain, read_plain, none_missing_cut, write_plain, grow_plain}

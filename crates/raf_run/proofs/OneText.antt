@@ -31,11 +31,10 @@ use Rattle.raf.specs.declared.command.Reply.TheVariants.{Refused}
 use Rattle.raf_script.specs.declared.script.Start.{Start}
 use Rattle.raf_script.specs.declared.script.Start.TheVariants.{Storage, Create}
 use Rattle.raf_run.specs.Disk.{Disk, memory_of, over, disk_in}
-use Rattle.raf_run.specs.Ends.{Ground, BuilderOf, Served, ServedAnew, RefusedAnew, EndsOn, EndsInMemory, ground_of, told_by, first_bytes}
+use Rattle.raf_run.specs.Ends.{Ground, BuilderOf, Served, ServedAnew, RefusedAnew, EndsOn, ground_of, told_by, first_bytes}
 use Rattle.raf_run.specs.Text.{end_text}
-use Rattle.raf_run.specs.Run.{outcome_status, memory_status, tells_io, last_status, refused_status}
+use Rattle.raf_run.specs.Answers.{outcome_status, memory_status, tells_io, last_status, refused_status}
 use Rattle.raf_run.specs.Laws.{OneEnd, OneText, new_header}
-use Rattle.raf_run.specs.declared.answer.End.{End}
 
 -- ---- the replies that are due are those of one list
 
@@ -182,6 +181,7 @@ served_replied G b cs random s disk outcome back p most setting bytes left h =
 -- a new file, from the random bytes
 pub record NewFile (G : Ground) (size version : ℕ) (random : List ℕ) (file : Handle) : Type 0 where
   pub id : 32 ≤ length random
+  pub header : file.header ≡ record { version = version; algorithm = G.cipher.id; chunk_size = size; file_size = 0; id = take 32 random }
   pub bytes : file.outside.bytes ≡ Some (new_header G size version random)
   pub left : file.outside.left ≡ Some (drop 32 random)
 
@@ -195,6 +195,7 @@ new_file G size version random b s disk file is_size is_version left bytes made 
     made.header ∙ (λ i. record { version = is_version i; algorithm = G.cipher.id; chunk_size = is_size i; file_size = 0; id = drawn.0 i }) in
     record {
       id = enough random file.header.id file.outside.left held.is_file.says.fields.id taken;
+      header = header;
       bytes = made.bytes b bytes ∙ ap (λ (h : Header). Some (sealed_header G.cipher G.key h)) header;
       left = drawn.1;
     }
@@ -235,7 +236,7 @@ memory_good o h = go (tells_io o) h
     go true h = absurd (omega (arith, h))
     go false h = h
 
-some_same : {X : Type 0} {x y : X} → ◌≡◌ {A = Option X} (Some x) (Some y) → x ≡ y
+pub some_same : {X : Type 0} {x y : X} → ◌≡◌ {A = Option X} (Some x) (Some y) → x ≡ y
 some_same h = (cc)
 
 pub one_text : OneText

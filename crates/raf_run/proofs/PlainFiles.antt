@@ -1,9 +1,9 @@
 -- A file none of whose chunks is missing, as one list of bytes.
 use Rattle.std.proofs.Common.{◌≡◌, ℕ, zero, suc, ◌+◌, ◌-◌, ◌*◌, ◌/◌, ◌<◌, ◌≤◌, min, max, Bool, true, false, ◌&&◌, ◌||◌, List, [], ◌∷◌, ◌++◌, length, take, drop, replicate, Option, Some, None, refl, sym, ap, ◌∙◌, arith, subst, inl, inr}
-use Rattle.std.specs.Prelude.{◌⊎◌, if◌then◌else◌, nat_lt, nat_le, not, is_some, unwrap_or}
+use Rattle.std.specs.Prelude.{◌⊎◌, if◌then◌else◌, nat_lt, not, is_some, unwrap_or}
 use Rattle.std.proofs.lemmas.Bool.{cases_lt}
 use Rattle.std.proofs.lemmas.Bool.Decides.{nat_tests}
-use Rattle.std.proofs.lemmas.List.{length-append, append-nil, take_all, length-replicate, replicate-append-replicate}
+use Rattle.std.proofs.lemmas.List.{length-append, take_all, length-replicate, replicate-append-replicate}
 use Rattle.raf_io.specs.Storage.{resized, spliced}
 use Rattle.raf_io.proofs.Splices.{resized_cut, spliced_inside}
 use Rattle.raf_format.specs.File.{File, chunk_count, chunk_len}

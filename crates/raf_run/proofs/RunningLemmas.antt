@@ -1,5 +1,5 @@
 -- A run of a script's commands, put together from its calls.
-use Rattle.std.proofs.Common.{◌≡◌, ℕ, List, [], Option, Some, None, Result, ap, sym, ◌∙◌, refl}
+use Rattle.std.proofs.Common.{◌≡◌, ℕ, List, [], Option, Some, None, Result, ap, ◌∙◌, refl}
 use Rattle.raf_format.specs.Version.{version_number}
 use Rattle.raf_format.specs.declared.version.Version.{Version}
 use Rattle.raf_io.specs.Source.{Takes}

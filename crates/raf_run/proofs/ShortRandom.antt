@@ -1,10 +1,9 @@
 -- The random source fails exactly where its told bytes run out.
-use Rattle.std.proofs.Common.{◌≡◌, ℕ, ◌+◌, ◌-◌, ◌<◌, ◌≤◌, true, List, ◌∷◌, ◌++◌, length, drop, Option, Some, None, Result, Ok, Err, refl, sym, ap, ◌∙◌, arith, subst, inl, inr}
-use Rattle.std.specs.Prelude.{◌⊎◌, IfOk, IfErr, slice_get}
+use Rattle.std.proofs.Common.{◌≡◌, ℕ, ◌-◌, ◌<◌, ◌≤◌, true, List, ◌∷◌, ◌++◌, length, drop, Option, Some, None, Result, Ok, Err, refl, sym, ap, ◌∙◌, arith, subst, inl, inr}
+use Rattle.std.specs.Prelude.{◌⊎◌, slice_get}
 use Rattle.std.proofs.lemmas.List.{length-append, length-drop}
-use Rattle.raf_format.specs.Numbers.{variant_of}
 use Rattle.raf_format.specs.Version.{version_number}
-use Rattle.raf_format.specs.File.{File, Opens}
+use Rattle.raf_format.specs.File.{File}
 use Rattle.raf_io.specs.Kinds.{kind_of}
 use Rattle.raf_io.specs.Source.{Takes, IsShort}
 use Rattle.raf_io.specs.declared.errors.Error.{Error}
@@ -22,8 +21,8 @@ use Rattle.raf.specs.declared.command.Reply.TheVariants.{Refused}
 use Rattle.raf_script.specs.declared.script.Start.{Start}
 use Rattle.raf_script.specs.declared.script.Start.TheVariants.{Storage, Create}
 use Rattle.raf_run.specs.Disk.{Disk, over, disk_in}
-use Rattle.raf_run.specs.Ends.{Ground, BuilderOf, Served, ServedAnew, RefusedAnew, EndsOn, ground_of, told_by}
-use Rattle.raf_run.specs.Run.{outcome_status, last_status, tells_io, is_io, is_io_kind}
+use Rattle.raf_run.specs.Ends.{Ground, BuilderOf, ServedAnew, RefusedAnew, EndsOn, ground_of, told_by}
+use Rattle.raf_run.specs.Answers.{last_status, is_io, is_io_kind}
 use Rattle.raf_run.specs.Laws.{CanCreate, IsExcused, FaultsRng, RunsShortOn, RunsShortBy, RunsShort, new_header}
 use Rattle.raf_run.proofs.OneText.{taken_so_many, last_of, new_file}
 use Rattle.raf_run.proofs.Completeness.{all_quiet, quiet_at, asked_split, no_hash, not_made, refused_on, is_excuse}

@@ -1,7 +1,12 @@
 pub mod Text
+pub mod LogText
 pub mod Words
 pub mod Disk
 pub mod Ends
+pub mod Logs
 pub mod Demo
+pub mod Conversions
+pub mod Answers
 pub mod Run
 pub mod Laws
+pub mod ConversionLaws

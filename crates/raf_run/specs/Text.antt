@@ -71,7 +71,7 @@ reply_line (replies.Commitment bytes) = line (codes "commitment ") (hex_word byt
 reply_line (replies.Refused kind) = refused_line kind
 
 -- the reply at an index, as a list of one
-abbrev pub item_at : List Reply → ℕ → List Reply
+abbrev pub item_at : {R : Type 0} → List R → ℕ → List R
 item_at rs i = take 1 (drop i rs)
 
 -- a line a reply, or the line of the refusal

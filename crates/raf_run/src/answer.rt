@@ -1,12 +1,22 @@
 //! What a run may answer.
 
 use aegis::raf::{Data, Error, Replies};
+use raf_log::{LogError, LogReplies};
 
 /// How a script's run in memory ended: the replies or the refusal, and the bytes of the storage that it handed back.
 #[derive(Drop)]
 pub struct End {
     /// The replies, or why there are none.
     pub outcome: Result<Replies, Error>,
+    /// The bytes of the storage afterwards.
+    pub storage: Data,
+}
+
+/// How a log's run in memory ended: the replies or the refusal, and the bytes of the storage that it handed back.
+#[derive(Drop)]
+pub struct LogEnd {
+    /// The replies, or why there are none.
+    pub outcome: Result<LogReplies, LogError>,
     /// The bytes of the storage afterwards.
     pub storage: Data,
 }
@@ -41,6 +51,8 @@ pub enum Answer {
     Ended(End),
     /// The script was run over the disk: the replies, or why there are none.
     Filed(Result<Replies, Error>),
+    /// The commands of a log were run in memory.
+    Logged(LogEnd),
     /// The demo was run, and none of its replies was a refusal.
     Shown(Report),
 }

@@ -1,8 +1,12 @@
-//! What the program does, as a library: words, a script and a disk in, replies and a status out.
+//! What the program does, as a library: words, a source and a disk in, texts and a status out.
 #![tactic(auto)]
 
 mod answer;
+mod answering;
+mod converting;
 mod demo;
+mod log_output;
+mod logging;
 mod output;
 mod program;
 mod running;

@@ -70,8 +70,8 @@ fn fill_line(out: &mut [u8], name: &[u8], argument: &[u8])
     end.copy_from_slice(b"\n");
 }
 
-// A line with a short argument, in one call of the sink.
-fn put_line<K: Sink>(sink: &mut K, name: &[u8], argument: &[u8]) -> Result<(), Failed>
+/// A line with a short argument, in one call of the sink.
+pub fn put_line<K: Sink>(sink: &mut K, name: &[u8], argument: &[u8]) -> Result<(), Failed>
     requires { length name.now + length argument.now < 64 }
     ensures { Puts (K.written sink.old) (K.written sink.new) (K.faults sink.old) (K.faults sink.new) result (line name.now argument.now) }
 {
@@ -89,7 +89,8 @@ pub fn put_number<K: Sink>(sink: &mut K, name: &[u8], number: u64) -> Result<(),
     put_line(sink, name, Buffer::new().format(number).as_bytes())
 }
 
-fn put_bytes<K: Sink>(sink: &mut K, name: &[u8], bytes: &[u8]) -> Result<(), Failed>
+/// A name, bytes in hex and LF.
+pub fn put_bytes<K: Sink>(sink: &mut K, name: &[u8], bytes: &[u8]) -> Result<(), Failed>
     ensures { Puts (K.written sink.old) (K.written sink.new) (K.faults sink.old) (K.faults sink.new) result (line name.now (hex_word bytes.now)) }
 {
     put(sink, name)?;
@@ -116,7 +117,8 @@ fn reason_word(reason: Reason) -> &'static [u8]
     }
 }
 
-fn kind_word(kind: ErrorKind) -> &'static [u8]
+/// The word for a kind of error.
+pub fn kind_word(kind: ErrorKind) -> &'static [u8]
     ensures word { result.now ≡ word kind }
     ensures short { length result.now ≤ 16 }
 {
@@ -203,7 +205,8 @@ pub fn put_outcome<K: Sink>(sink: &mut K, outcome: &Result<Replies, Error>) -> R
     }
 }
 
-fn put_storage<K: Sink>(sink: &mut K, storage: &Data) -> Result<(), Failed>
+/// The storage line.
+pub fn put_storage<K: Sink>(sink: &mut K, storage: &Data) -> Result<(), Failed>
     ensures { Puts (K.written sink.old) (K.written sink.new) (K.faults sink.old) (K.faults sink.new) result (line (codes "storage ") (hex_word storage.now)) }
 {
     put_bytes(sink, b"storage ", storage.as_slice())

@@ -3,7 +3,7 @@ ghost use Rattle.std.specs.Prelude.{◌≡◌, [], Some, None, true, false, leng
 ghost use Rattle.aegis_core.specs.Sealing.{key_len};
 ghost use Rattle.raf_format.specs.Cipher.{cipher_of};
 ghost use Rattle.raf_format.specs.Numbers.{variant_of};
-ghost use Rattle.raf_io.specs.Memory.{memory_bytes, durable_bytes, IsFresh};
+ghost use Rattle.raf_io.specs.Memory.{memory_bytes, durable_bytes, failing, IsFresh};
 ghost use Rattle.raf.specs.Handle.{Handle};
 ghost use Rattle.raf.specs.Opening.{Made};
 ghost use Rattle.raf_run.specs.Disk.{disk_of, disk_in, over};
@@ -55,20 +55,29 @@ fn serve<A: Algorithm, I: RafIo, R: RafRng, H: MerkleHasher>(
     Ended { outcome, io }
 }
 
-// A new file, closed again, or why there is none.
-fn make<A: Algorithm, I: RafIo, R: RafRng, H: MerkleHasher>(
+/// Why no file was made, and the storage.
+#[derive(Drop)]
+pub struct Unmade<I: RafIo> {
+    /// Why.
+    pub error: Error,
+    /// The storage.
+    pub io: I,
+}
+
+/// A new file, closed again, or why there is none.
+pub fn make<A: Algorithm, I: RafIo, R: RafRng, H: MerkleHasher>(
     alloc: Global,
     builder: RafBuilder<A, R, H>,
     io: I,
     key: &A::Key,
-) -> Result<Parts<I, R, H>, Ended<I>>
+) -> Result<Parts<I, R, H>, Unmade<I>>
     requires hasher { (h : H) → H.faults h ≡ 0 }
     requires source { builder.outside.left ≡ None → (r : R) → R.faults r ≡ 0 }
     ensures made { IfOk result (λ parts. (h : Handle) × (parts ≡ h.outside) × Made (cipher_of A.variant) H.hashing (A.key_list key.now) builder
         (over (disk_of I.bytes I.durable I.faults I.reach I.traffic I.changes I.strays io) builder.outside) h) }
     ensures refused { IfErr result (λ e. RefusedAnew (record { cipher = cipher_of A.variant; key = A.key_list key.now; answers = H.hashing; most = builder.most; setting = builder.outside.setting; random = builder.outside.left })
         builder (disk_of I.bytes I.durable I.faults I.reach I.traffic I.changes I.strays io)
-        e.outcome (disk_of I.bytes I.durable I.faults I.reach I.traffic I.changes I.strays e.io)) }
+        (Err e.error) (disk_of I.bytes I.durable I.faults I.reach I.traffic I.changes I.strays e.io)) }
 {
     match builder.create::<I>(alloc, io, key) {
         Ok(file) => Ok(file.close()),
@@ -79,10 +88,7 @@ fn make<A: Algorithm, I: RafIo, R: RafRng, H: MerkleHasher>(
                 rng: _,
                 hasher: _,
             } = refused;
-            Err(Ended {
-                outcome: Err(error),
-                io,
-            })
+            Err(Unmade { error, io })
         }
     }
 }
@@ -118,14 +124,17 @@ fn run_on<A: Algorithm, I: RafIo, R: RafRng, H: MerkleHasher>(
                     let Parts { io, rng, hasher: _ } = parts;
                     serve::<A, I, R, H>(alloc, opener.rng::<R>(rng), io, key, commands)
                 }
-                Err(ended) => ended,
+                Err(Unmade { error, io }) => Ended {
+                    outcome: Err(error),
+                    io,
+                },
             }
         }
     }
 }
 
-// A source of no bytes, in a builder whose source is set later.
-fn no_source(alloc: Global) -> VecRng {
+/// A source of no bytes, in a builder whose source is set later.
+pub fn no_source(alloc: Global) -> VecRng {
     VecRng::new(Vec::new(alloc))
 }
 
@@ -203,11 +212,13 @@ pub fn run_script<I: RafIo>(alloc: Global, script: Script, io: I) -> Ended<I>
     }
 }
 
-// The memory that a script begins with, whose bytes are taken from the script.
-fn take_memory(alloc: Global, start: &mut Start) -> MemIo
+/// The memory that a script begins with, whose bytes are taken from the script.
+pub fn take_memory(alloc: Global, start: &mut Start) -> MemIo
     ensures bytes { memory_bytes result ≡ first_bytes start.old }
     ensures durable { durable_bytes result ≡ [] }
     ensures fresh { IsFresh result }
+    // None of its calls is to fail.
+    ensures sound { failing result ≡ [] }
     ensures start { start.new ≡ without_bytes start.old }
 {
     let none = Data::from_vec(Vec::new(alloc));

@@ -1,8 +1,12 @@
--- Lemmas of scripts.
+-- Lemmas of texts and their lines.
 pub mod PartsLemmas
 pub mod NumberLemmas
-pub mod CommandLemmas
+pub mod ItemLemmas
 pub mod ReadingLemmas
 pub mod SpellingLemmas
+pub mod LogLemmas
+pub mod PlaceLemmas
 pub mod WrongLemmas
 pub mod ContentLemmas
+pub mod ConversionLemmas
+pub mod LawLemmas

@@ -1,13 +1,14 @@
 -- A text cut at its first byte c, as its parts, its words and its lines show it.
-use Rattle.std.proofs.Common.{◌≡◌, ℕ, suc, zero, ◌+◌, ◌-◌, ◌<◌, Bool, true, false, List, [], ◌∷◌, length, get_or, take, drop, None, Ok, Err, refl, ap, ◌∙◌, arith, eqb, eq-eqb, add-one}
+use Rattle.std.proofs.Common.{◌≡◌, ℕ, suc, zero, ◌+◌, ◌-◌, ◌<◌, Bool, true, false, List, [], ◌∷◌, length, get_or, take, drop, None, Ok, Err, refl, sym, ap, ◌∙◌, arith, eqb, eq-eqb, add-one}
 use Rattle.std.specs.Prelude.{nat_eq, if◌then◌else◌}
-use Rattle.std.specs.List.{onto_first}
-use Rattle.std.proofs.lemmas.List.Splits.{slice_split-cons_yes, slice_split-cons_no, length-slice_split}
+use Rattle.std.specs.List.{onto_first, join_with_byte}
+use Rattle.std.proofs.lemmas.List.Splits.{slice_split-cons_yes, slice_split-cons_no, length-slice_split, join_with_byte-slice_split}
 use Rattle.std.proofs.lemmas.Bool.{ne_eqb}
 use Rattle.std.proofs.lemmas.List.{length-drop}
 use Rattle.std.proofs.Math.Seq.{take-length}
 use Rattle.raf_script.specs.Words.{parts}
-use Rattle.raf_script.specs.Lines.{lines, first}
+use Rattle.raf_script.specs.Lines.{lines, lines_of_parts, first}
+use Rattle.raf_script.specs.Reading.{is_end}
 
 found_suc : (c : ℕ) (xs : List ℕ) (i : ℕ) → i < length xs → ((k : ℕ) → k < i → get_or xs k 0 ≡ c → ⊥) → get_or xs i 0 ≡ c → parts c xs ≡ take i xs ∷ parts c (drop (suc i) xs)
 found_suc c [] i lt before here = absurd (omega arith)
@@ -53,3 +54,17 @@ lines_none = refl
 -- the slice from an index on
 pub whole_drop : (at : ℕ) (l : List ℕ) → take (length l - at) (drop at l) ≡ drop at l
 whole_drop at l = rw (← length-drop at l) (take-length (drop at l))
+
+-- no line is left where the text has no byte
+end_parts : (text : List ℕ) (ps : List (List ℕ)) → parts 10 text ≡ ps → 0 < length text → is_end (lines_of_parts ps) ≡ false
+end_parts text [] e some = let shape = parts_cons 10 text in let odd : ◌≡◌ {A = List (List ℕ)} [] (shape.0 ∷ shape.1) = sym e ∙ shape.2 in (cc)
+end_parts text (y ∷ []) e some =
+    let same : y ≡ text = ap (join_with_byte 10) (sym e) ∙ join_with_byte-slice_split 10 text in
+    let long : 0 < length y = rw same some in
+    rw (ne_eqb (length y) 0 (λ h. omega arith)) refl
+end_parts text (y ∷ z ∷ more) e some = refl
+
+pub end_of : (text : List ℕ) → is_end (lines text) ≡ nat_eq (length text) 0
+unfolding lines
+end_of [] = refl
+end_of (x ∷ xs) = end_parts (x ∷ xs) (parts 10 (x ∷ xs)) refl (omega arith) ∙ sym (ne_eqb (length (x ∷ xs)) 0 (λ h. omega arith))

@@ -19,18 +19,20 @@ use Rattle.raf_format.specs.declared.version.Version.{Version}
 use Rattle.raf_format.specs.declared.version.Version.TheVariants.{V1}
 use Rattle.raf_script.specs.Words.{parts, words, number, hex_bytes, some_bytes}
 use Rattle.raf_script.specs.Lines.{◌>>=◌, fits, first, lines, lines_of_parts}
-use Rattle.raf_script.specs.Reading.{plain_command, truncate_command, range_command, command_words, command, commands, argument, algorithm_named, algorithm_words, key_words, randomness_words, tree_words, version_named, may_hold, start_words, script}
-use Rattle.raf_script.specs.Script.{MayHold, text_of, SpellsNumber, SpellsBytes, name_of, version_word, SpellsAlgorithm, SpellsKey, SpellsRandomness, SpellsTree, SpellsStart, SpellsCommand, Spells}
+use Rattle.raf_script.specs.Reading.{plain_command, truncate_command, range_command, command_words, items, argument, algorithm_named, algorithm_words, key_words, randomness_words, tree_words, version_named, may_hold, start_words, settings, whole}
+use Rattle.raf_script.specs.Places.{text_of}
+use Rattle.raf_script.specs.Settings.{MayHold, SpellsNumber, SpellsBytes, name_of, version_word, SpellsAlgorithm, SpellsKey, SpellsRandomness, SpellsTree, SpellsStart, SpellsLines}
+use Rattle.raf_script.specs.Script.{SpellsCommand}
 use Rattle.raf_script.specs.declared.script.Medium.{Medium}
 use Rattle.raf_script.specs.declared.script.Medium.TheVariants.{Memory, Disk}
 use Rattle.raf_script.specs.declared.script.Randomness.{Randomness}
 use Rattle.raf_script.specs.declared.script.Randomness.TheVariants.{Random, Seed}
 use Rattle.raf_script.specs.declared.script.Start.{Start}
 use Rattle.raf_script.specs.declared.script.Start.TheVariants.{Storage, Create}
-use Rattle.raf_script.specs.declared.script.Script.{Script}
+use Rattle.raf_script.specs.declared.script.Settings.{Settings}
 use Rattle.raf_script.proofs.NumberLemmas.{both}
 use Rattle.raf_script.proofs.PartsLemmas.{parts_cons}
-use Rattle.raf_script.proofs.CommandLemmas.{first_ok}
+use Rattle.raf_script.proofs.ItemLemmas.{first_ok}
 
 -- ---- how a reading went
 
@@ -47,24 +49,24 @@ by_test false r s y h took other = other h
 pub by_word : {A P : Type 0} (w name : List ℕ) (r s y : A) → (if bytes_eq w name then r else s) ≡ y → (w ≡ name → r ≡ y → P) → (s ≡ y → P) → P
 by_word w name r s y h took other = by_test (bytes_eq w name) r s y h (λ t. took ((bytes_eq-Decides w name).0 t)) other
 
-ok_value : {A : Type 0} {x y : A} → ◌≡◌ {A = Result A ℕ} (Ok x) (Ok y) → x ≡ y
+pub ok_value : {A : Type 0} {x y : A} → ◌≡◌ {A = Result A ℕ} (Ok x) (Ok y) → x ≡ y
 ok_value h = (cc)
 
 some_value : {A : Type 0} {x y : A} → ◌≡◌ {A = Option A} (Some x) (Some y) → x ≡ y
 some_value h = (cc)
 
 -- what holds of the value holds of the one that was read
-came : {A : Type 0} (P : A → Type 0) (x y : A) → ◌≡◌ {A = Result A ℕ} (Ok x) (Ok y) → P x → P y
+pub came : {A : Type 0} (P : A → Type 0) (x y : A) → ◌≡◌ {A = Result A ℕ} (Ok x) (Ok y) → P x → P y
 came P x y h p = subst P (ok_value h) p
 
 pub fits_ok : {A : Type 0} (n : ℕ) (o : Option A) (x : A) → fits n o ≡ Ok x → o ≡ Some x
 fits_ok n (Some y) x h = (cc)
 fits_ok n None x h = (cc)
 
-one : {a a' : List ℕ} → a ≡ a' → a ∷ [] ≡ a' ∷ []
+pub one : {a a' : List ℕ} → a ≡ a' → a ∷ [] ≡ a' ∷ []
 one p = λ i. p i ∷ []
 
-two : {a a' : List ℕ} (b : List ℕ) → a ≡ a' → a ∷ b ∷ [] ≡ a' ∷ b ∷ []
+pub two : {a a' : List ℕ} (b : List ℕ) → a ≡ a' → a ∷ b ∷ [] ≡ a' ∷ b ∷ []
 two b p = λ i. p i ∷ b ∷ []
 
 three : {a a' : List ℕ} (b c : List ℕ) → a ≡ a' → a ∷ b ∷ c ∷ [] ≡ a' ∷ b ∷ c ∷ []
@@ -101,10 +103,10 @@ pub bytes_spelled : (word bytes : List ℕ) → hex_bytes word ≡ Some bytes �
 unfolding hex_bytes
 bytes_spelled word bytes h = hex_cases (bytes_eq word (codes "-")) word bytes refl h
 
-number_in : (n bits : ℕ) (word : List ℕ) (x : ℕ) → fits n (number bits word) ≡ Ok x → SpellsNumber bits word x
+pub number_in : (n bits : ℕ) (word : List ℕ) (x : ℕ) → fits n (number bits word) ≡ Ok x → SpellsNumber bits word x
 number_in n bits word x h = number_spelled bits word x (fits_ok n (number bits word) x h)
 
-bytes_in : (n : ℕ) (word bytes : List ℕ) → fits n (hex_bytes word) ≡ Ok bytes → SpellsBytes word bytes
+pub bytes_in : (n : ℕ) (word bytes : List ℕ) → fits n (hex_bytes word) ≡ Ok bytes → SpellsBytes word bytes
 bytes_in n word bytes h = bytes_spelled word bytes (fits_ok n (hex_bytes word) bytes h)
 
 -- ---- the first five lines
@@ -114,7 +116,7 @@ pub line_joined : (line : List ℕ) → line ≡ join_with_byte 32 (words line)
 unfolding words
 line_joined line = sym (join_with_byte-slice_split 32 line)
 
-argument_spelled : (n : ℕ) (name : List ℕ) (ws : List (List ℕ)) (value : List ℕ) → argument n name ws ≡ Ok value → ws ≡ name ∷ value ∷ []
+pub argument_spelled : (n : ℕ) (name : List ℕ) (ws : List (List ℕ)) (value : List ℕ) → argument n name ws ≡ Ok value → ws ≡ name ∷ value ∷ []
 unfolding argument
 argument_spelled n name [] value h = (cc)
 argument_spelled n name (w ∷ []) value h = (cc)
@@ -172,7 +174,7 @@ tree_spelled n (w ∷ a ∷ most ∷ []) t h =
     came (SpellsTree (w ∷ a ∷ most ∷ [])) (Some m) t k (most, (λ i. e i ∷ f i ∷ most ∷ []), number_in n 64 most m read))) (λ k. (cc))) (λ k. (cc))
 tree_spelled n (w ∷ a ∷ b ∷ c ∷ more) t h = (cc)
 
-version_spelled : (w : List ℕ) (v : Version) → version_named w ≡ Some v → w ≡ version_word v
+pub version_spelled : (w : List ℕ) (v : Version) → version_named w ≡ Some v → w ≡ version_word v
 version_spelled w v h =
     by_word w (codes "1") _ _ (Some v) h (λ e k. subst (λ u. w ≡ version_word u) (some_value k) e) (λ h.
     by_word w (codes "2") _ _ (Some v) h (λ e k. subst (λ u. w ≡ version_word u) (some_value k) e) (λ k. (cc)))
@@ -240,22 +242,6 @@ command_spelled n (w ∷ a ∷ []) c h = truncate_spelled n w a c h
 command_spelled n (w ∷ a ∷ b ∷ []) c h = range_spelled n w a b c h
 command_spelled n (w ∷ a ∷ b ∷ d ∷ more) c h = (cc)
 
--- these lines spell these commands
-abbrev pub CommandLines : List (Option (List ℕ)) → List Command → Type 0
-CommandLines ls cs = (wss : List (List (List ℕ))) × (ls ≡ map (λ ws. Some (join_with_byte 32 ws)) wss) × AllZip SpellsCommand wss cs
-
-commands_spelled : (n : ℕ) (ls : List (Option (List ℕ))) (cs : List Command) → commands n ls ≡ Ok cs → CommandLines ls cs
-unfolding commands
-commands_spelled n [] [] h = ([], refl, tt)
-commands_spelled n [] (c ∷ cs) h = (cc)
-commands_spelled n (None ∷ more) cs h = (cc)
-commands_spelled n (Some line ∷ more) cs h =
-    by_bind (command n line) _ cs h (λ c read h.
-    by_bind (commands (n + 1) more) _ cs h (λ next read' k.
-    let rest = commands_spelled (n + 1) more next read' in
-    came (CommandLines (Some line ∷ more)) (c ∷ next) cs k
-    (words line ∷ rest.0, ap (λ (l : List ℕ). Some l ∷ more) (line_joined line) ∙ ap (λ (ls : List (Option (List ℕ))). Some (join_with_byte 32 (words line)) ∷ ls) rest.1, (command_spelled n (words line) c read, rest.2))))
-
 -- ---- the whole
 
 -- a text all of whose lines are ended is these lines
@@ -275,7 +261,7 @@ lines_text (line ∷ next ∷ more) (ws ∷ wss) some h =
     let rest = lines_text (next ∷ more) wss (omega arith) back in
     ap (λ (l : List ℕ). line ++ (10 ∷ l)) rest ∙ ap (λ (l : List ℕ). l ++ (10 ∷ text_of wss)) front ∙ sym (append_assoc (join_with_byte 32 ws) (10 ∷ []) (text_of wss))
 
-text_spelled : (text : List ℕ) (wss : List (List (List ℕ))) → lines text ≡ map (λ ws. Some (join_with_byte 32 ws)) wss → text ≡ text_of wss
+pub text_spelled : (text : List ℕ) (wss : List (List (List ℕ))) → lines text ≡ map (λ ws. Some (join_with_byte 32 ws)) wss → text ≡ text_of wss
 unfolding lines
 text_spelled text wss h =
     let shape = parts_cons 10 text in
@@ -295,40 +281,98 @@ cut_lines ls l1 l2 l3 l4 l5 h1 h2 h3 h4 h5 =
     ∙ ap (λ (r : List (Option (List ℕ))). Some l1.0 ∷ Some l2.0 ∷ Some l3.0 ∷ r) (first_ok 4 l3.1 l4.0 l4.1 h4)
     ∙ ap (λ (r : List (Option (List ℕ))). Some l1.0 ∷ Some l2.0 ∷ Some l3.0 ∷ Some l4.0 ∷ r) (first_ok 5 l4.1 l5.0 l5.1 h5)
 
-five : {a b c d e a' b' c' d' e' : List ℕ} {r r' : List (Option (List ℕ))} → a ≡ a' → b ≡ b' → c ≡ c' → d ≡ d' → e ≡ e' → r ≡ r'
+pub five : {a b c d e a' b' c' d' e' : List ℕ} {r r' : List (Option (List ℕ))} → a ≡ a' → b ≡ b' → c ≡ c' → d ≡ d' → e ≡ e' → r ≡ r'
     → ◌≡◌ {A = List (Option (List ℕ))} (Some a ∷ Some b ∷ Some c ∷ Some d ∷ Some e ∷ r) (Some a' ∷ Some b' ∷ Some c' ∷ Some d' ∷ Some e' ∷ r')
 five p q s t u v = λ i. Some (p i) ∷ Some (q i) ∷ Some (s i) ∷ Some (t i) ∷ Some (u i) ∷ v i
 
--- what a text reads as is what it spells
-pub script_spelled : (medium : Medium) (text : List ℕ) (s : Script) → script medium text ≡ Ok s → Spells medium text s
-unfolding script
-script_spelled medium text s h =
-    by_bind (first 1 (lines text)) _ s h (λ l1 r1 h.
-    by_bind (algorithm_words 1 (words l1.0)) _ s h (λ a ra h.
-    by_bind (first 2 l1.1) _ s h (λ l2 r2 h.
-    by_bind (key_words 2 a (words l2.0)) _ s h (λ key rk h.
-    by_bind (first 3 l2.1) _ s h (λ l3 r3 h.
-    by_bind (randomness_words 3 (words l3.0)) _ s h (λ r rr h.
-    by_bind (first 4 l3.1) _ s h (λ l4 r4 h.
-    by_bind (tree_words 4 (words l4.0)) _ s h (λ t rt h.
-    by_bind (first 5 l4.1) _ s h (λ l5 r5 h.
-    by_bind (start_words 5 medium (words l5.0)) _ s h (λ b rb h.
-    by_bind (commands 6 l5.1) _ s h (λ cs rc k.
-    let rest = commands_spelled 6 l5.1 cs rc in
-    let shape = cut_lines (lines text) l1 l2 l3 l4 l5 r1 r2 r3 r4 r5 in
-    came (Spells medium text) (record { algorithm = a; key = key; randomness = r; max_chunks = t; start = b; commands = cs }) s k (record {
-      algorithm_line = words l1.0;
-      key_line = words l2.0;
-      randomness_line = words l3.0;
-      tree_line = words l4.0;
-      start_line = words l5.0;
-      command_lines = rest.0;
-      spelled = text_spelled text (words l1.0 ∷ words l2.0 ∷ words l3.0 ∷ words l4.0 ∷ words l5.0 ∷ rest.0)
-          (shape ∙ five (line_joined l1.0) (line_joined l2.0) (line_joined l3.0) (line_joined l4.0) (line_joined l5.0) rest.1);
-      algorithm = algorithm_spelled 1 (words l1.0) a ra;
-      key = key_spelled 2 a (words l2.0) key rk;
-      randomness = randomness_spelled 3 (words l3.0) r rr;
-      tree = tree_spelled 4 (words l4.0) t rt;
-      start = start_spelled 5 medium (words l5.0) b rb;
-      commands = rest.2;
-    }))))))))))))
+-- the lines that were read, and what was read of each
+pub record FiveRead (medium : Medium) (text : List ℕ) (s : Settings) (more : List (Option (List ℕ))) : Type 0 where
+  pub l1 : Cut
+  pub l2 : Cut
+  pub l3 : Cut
+  pub l4 : Cut
+  pub l5 : List ℕ
+  pub first1 : first 1 (lines text) ≡ Ok l1
+  pub first2 : first 2 l1.1 ≡ Ok l2
+  pub first3 : first 3 l2.1 ≡ Ok l3
+  pub first4 : first 4 l3.1 ≡ Ok l4
+  pub first5 : first 5 l4.1 ≡ Ok (l5, more)
+  pub algorithm : algorithm_words 1 (words l1.0) ≡ Ok s.algorithm
+  pub key : key_words 2 s.algorithm (words l2.0) ≡ Ok s.key
+  pub randomness : randomness_words 3 (words l3.0) ≡ Ok s.randomness
+  pub tree : tree_words 4 (words l4.0) ≡ Ok s.max_chunks
+  pub start : start_words 5 medium (words l5) ≡ Ok s.start
+
+pub five_read : (medium : Medium) (text : List ℕ) (st : Settings × List (Option (List ℕ))) → settings medium text ≡ Ok st → FiveRead medium text st.0 st.1
+unfolding settings
+five_read medium text st h =
+    by_bind (first 1 (lines text)) _ st h (λ l1 r1 h.
+    by_bind (algorithm_words 1 (words l1.0)) _ st h (λ a ra h.
+    by_bind (first 2 l1.1) _ st h (λ l2 r2 h.
+    by_bind (key_words 2 a (words l2.0)) _ st h (λ key rk h.
+    by_bind (first 3 l2.1) _ st h (λ l3 r3 h.
+    by_bind (randomness_words 3 (words l3.0)) _ st h (λ r rr h.
+    by_bind (first 4 l3.1) _ st h (λ l4 r4 h.
+    by_bind (tree_words 4 (words l4.0)) _ st h (λ t rt h.
+    by_bind (first 5 l4.1) _ st h (λ l5 r5 h.
+    by_bind (start_words 5 medium (words l5.0)) _ st h (λ b rb k.
+    came (λ (v : Settings × List (Option (List ℕ))). FiveRead medium text v.0 v.1) (record { algorithm = a; key = key; randomness = r; max_chunks = t; start = b }, l5.1) st k (record {
+      l1 = l1;
+      l2 = l2;
+      l3 = l3;
+      l4 = l4;
+      l5 = l5.0;
+      first1 = r1;
+      first2 = r2;
+      first3 = r3;
+      first4 = r4;
+      first5 = r5;
+      algorithm = ra;
+      key = rk;
+      randomness = rr;
+      tree = rt;
+      start = rb;
+    })))))))))))
+
+module _ {C : Type 0} (SpellsItem : List (List ℕ) → C → Type 0) (item : ℕ → List (List ℕ) → Result C ℕ)
+    (spelled : (n : ℕ) (ws : List (List ℕ)) (c : C) → item n ws ≡ Ok c → SpellsItem ws c) where
+  -- these lines spell these items
+  abbrev pub ItemLines : List (Option (List ℕ)) → List C → Type 0
+  ItemLines ls cs = (wss : List (List (List ℕ))) × (ls ≡ map (λ ws. Some (join_with_byte 32 ws)) wss) × AllZip SpellsItem wss cs
+
+  items_spelled : (n : ℕ) (ls : List (Option (List ℕ))) (cs : List C) → items item n ls ≡ Ok cs → ItemLines ls cs
+  unfolding items
+  items_spelled n [] [] h = ([], refl, tt)
+  items_spelled n [] (c ∷ cs) h = (cc)
+  items_spelled n (None ∷ more) cs h = (cc)
+  items_spelled n (Some line ∷ more) cs h =
+      by_bind (item n (words line)) _ cs h (λ c read h.
+      by_bind (items item (n + 1) more) _ cs h (λ next read' k.
+      let rest = items_spelled (n + 1) more next read' in
+      came (ItemLines (Some line ∷ more)) (c ∷ next) cs k
+      (words line ∷ rest.0, ap (λ (l : List ℕ). Some l ∷ more) (line_joined line) ∙ ap (λ (ls : List (Option (List ℕ))). Some (join_with_byte 32 (words line)) ∷ ls) rest.1, (spelled n (words line) c read, rest.2))))
+
+  -- what a text reads as is what it spells
+  pub lines_spelled : (medium : Medium) (text : List ℕ) (s : Settings) (cs : List C) → whole item medium text ≡ Ok (s, cs) → SpellsLines SpellsItem medium text s cs
+  lines_spelled medium text s cs h =
+      by_bind (settings medium text) _ (s, cs) h (λ st rs h.
+      by_bind (items item 6 st.1) _ (s, cs) h (λ list rc k.
+      let five' = five_read medium text st rs in
+      let rest = items_spelled 6 st.1 list rc in
+      let shape = cut_lines (lines text) five'.l1 five'.l2 five'.l3 five'.l4 (five'.l5, st.1) five'.first1 five'.first2 five'.first3 five'.first4 five'.first5 in
+      came (λ (v : Settings × List C). SpellsLines SpellsItem medium text v.0 v.1) (st.0, list) (s, cs) k (record {
+        algorithm_line = words five'.l1.0;
+        key_line = words five'.l2.0;
+        randomness_line = words five'.l3.0;
+        tree_line = words five'.l4.0;
+        start_line = words five'.l5;
+        item_lines = rest.0;
+        spelled = text_spelled text (words five'.l1.0 ∷ words five'.l2.0 ∷ words five'.l3.0 ∷ words five'.l4.0 ∷ words five'.l5 ∷ rest.0)
+            (shape ∙ five (line_joined five'.l1.0) (line_joined five'.l2.0) (line_joined five'.l3.0) (line_joined five'.l4.0) (line_joined five'.l5) rest.1);
+        algorithm = algorithm_spelled 1 (words five'.l1.0) st.0.algorithm five'.algorithm;
+        key = key_spelled 2 st.0.algorithm (words five'.l2.0) st.0.key five'.key;
+        randomness = randomness_spelled 3 (words five'.l3.0) st.0.randomness five'.randomness;
+        tree = tree_spelled 4 (words five'.l4.0) st.0.max_chunks five'.tree;
+        start = start_spelled 5 medium (words five'.l5) st.0.start five'.start;
+        items = rest.2;
+      })))

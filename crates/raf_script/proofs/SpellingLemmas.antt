@@ -1,5 +1,5 @@
 -- What is spelled is read: a text that spells a content reads as that content.
-use Rattle.std.proofs.Common.{◌≡◌, ℕ, ◌+◌, ◌^◌, ◌<◌, ◌≤◌, Bool, true, false, List, [], ◌∷◌, ◌++◌, length, map, Option, Some, None, Ok, refl, sym, ap, ◌∙◌, append_assoc, arith, rules, inl, inr}
+use Rattle.std.proofs.Common.{◌≡◌, ℕ, ◌+◌, ◌^◌, ◌<◌, ◌≤◌, Bool, true, false, List, [], ◌∷◌, ◌++◌, length, map, Option, Some, None, Result, Ok, refl, sym, ap, ◌∙◌, append_assoc, arith, rules, inl, inr}
 use Rattle.std.specs.Prelude.{decimal, bytes_eq, codes, if◌then◌else◌, nat_eq, ◌==◌, ⊤, ◌⊎◌}
 use Rattle.std.specs.List.{join_with_byte, All, AllZip}
 use Rattle.std.specs.Str.Parse.{digits_value}
@@ -21,15 +21,17 @@ use Rattle.raf_format.specs.declared.version.Version.{Version}
 use Rattle.raf_format.specs.declared.version.Version.TheVariants.{V1, V2}
 use Rattle.raf_script.specs.Words.{parts, words, number, hex_bytes, some_bytes}
 use Rattle.raf_script.specs.Lines.{fits, lines}
-use Rattle.raf_script.specs.Reading.{plain_command, truncate_command, range_command, command_words, commands, argument, algorithm_named, algorithm_words, key_words, randomness_words, tree_words, version_named, may_hold, start_words, script}
-use Rattle.raf_script.specs.Script.{line_text, text_of, SpellsNumber, SpellsBytes, name_of, version_word, SpellsAlgorithm, SpellsKey, SpellsRandomness, SpellsTree, MayHold, SpellsStart, SpellsCommand, Spells, Fits}
+use Rattle.raf_script.specs.Reading.{plain_command, truncate_command, range_command, command_words, items, argument, algorithm_named, algorithm_words, key_words, randomness_words, tree_words, version_named, may_hold, start_words, settings, whole}
+use Rattle.raf_script.specs.Places.{line_text, text_of}
+use Rattle.raf_script.specs.Settings.{SpellsNumber, SpellsBytes, name_of, version_word, SpellsAlgorithm, SpellsKey, SpellsRandomness, SpellsTree, MayHold, SpellsStart, SpellsLines, FitsLines}
+use Rattle.raf_script.specs.Script.{SpellsCommand}
 use Rattle.raf_script.specs.declared.script.Medium.{Medium}
 use Rattle.raf_script.specs.declared.script.Medium.TheVariants.{Memory, Disk}
 use Rattle.raf_script.specs.declared.script.Randomness.{Randomness}
 use Rattle.raf_script.specs.declared.script.Randomness.TheVariants.{Random, Seed}
 use Rattle.raf_script.specs.declared.script.Start.{Start}
 use Rattle.raf_script.specs.declared.script.Start.TheVariants.{Storage, Create}
-use Rattle.raf_script.specs.declared.script.Script.{Script}
+use Rattle.raf_script.specs.declared.script.Settings.{Settings}
 use Rattle.raf_script.proofs.NumberLemmas.{number_some}
 use Rattle.raf_script.proofs.PartsLemmas.{parts_cons}
 
@@ -92,7 +94,7 @@ lines_of_text (ws ∷ wss) h =
 
 -- ---- what is spelled is a word
 
-number_is_word : (bits : ℕ) (word : List ℕ) (n : ℕ) → 2 ^ bits ≤ 2 ^ 64 → SpellsNumber bits word n → IsWord word
+pub number_is_word : (bits : ℕ) (word : List ℕ) (n : ℕ) → 2 ^ bits ≤ 2 ^ 64 → SpellsNumber bits word n → IsWord word
 number_is_word bits word n fits h =
     let small : n < 2 ^ 64 = omega (arith, h.small) in
     let numeral = decimal_is_IsNumeral n small in
@@ -101,7 +103,7 @@ number_is_word bits word n fits h =
 hex_digit_high : (b : ℕ) → is_hex_digit b ≡ true → 32 < b
 hex_digit_high b h = grind (arith)
 
-bytes_are_word : (word bytes : List ℕ) → SpellsBytes word bytes → IsWord word
+pub bytes_are_word : (word bytes : List ℕ) → SpellsBytes word bytes → IsWord word
 bytes_are_word word [] h = rw h (search rules)
 bytes_are_word word (b ∷ bytes) h = All-weaker (λ x. is_hex_digit x ≡ true) (λ x. 32 < x) hex_digit_high word (decode_of-ok word (b ∷ bytes) h).1
 
@@ -127,7 +129,7 @@ unfolding hex_bytes
 bytes_read word [] h = let same : bytes_eq word (codes "-") ≡ true = (bytes_eq-Decides word (codes "-")).1 h in rw same refl
 bytes_read word (b ∷ bytes) h = hex_chosen (bytes_eq word (codes "-")) word b bytes refl h
 
-argument_read : (n : ℕ) (name word : List ℕ) → argument n name (name ∷ word ∷ []) ≡ Ok word
+pub argument_read : (n : ℕ) (name word : List ℕ) → argument n name (name ∷ word ∷ []) ≡ Ok word
 unfolding argument
 argument_read n name word = let same : bytes_eq name name ≡ true = (bytes_eq-Decides name name).1 refl in rw same refl
 
@@ -188,11 +190,11 @@ pub tree_read : (n : ℕ) (ws : List (List ℕ)) (t : Option ℕ) → SpellsTree
 tree_read n ws None h = rw h refl
 tree_read n ws (Some most) h = rw (h.1, number_read 64 h.0 most (omega arith) h.2) refl
 
-version_is_word : (v : Version) → IsWord (version_word v)
+pub version_is_word : (v : Version) → IsWord (version_word v)
 version_is_word V1 = search rules
 version_is_word V2 = search rules
 
-version_read : (v : Version) → version_named (version_word v) ≡ Some v
+pub version_read : (v : Version) → version_named (version_word v) ≡ Some v
 version_read V1 = refl
 version_read V2 = refl
 
@@ -251,54 +253,57 @@ command_read n ws Rebuild h = rw h refl
 command_read n ws Verify h = rw h refl
 command_read n ws Commitment h = rw h refl
 
-commands_are_lines : (wss : List (List (List ℕ))) (cs : List Command) → AllZip SpellsCommand wss cs → AreAllLines wss
-commands_are_lines [] cs h = tt
-commands_are_lines (ws ∷ wss) [] h = absurd h
-commands_are_lines (ws ∷ wss) (c ∷ cs) h = let one = command_is_line ws c h.0 in (one.0, one.1, commands_are_lines wss cs h.1)
-
-commands_read : (n : ℕ) (wss : List (List (List ℕ))) (cs : List Command) → AllZip SpellsCommand wss cs → commands n (map (λ ws. Some (join_with_byte 32 ws)) wss) ≡ Ok cs
-unfolding commands
-commands_read n [] [] h = refl
-commands_read n [] (c ∷ cs) h = absurd h
-commands_read n (ws ∷ wss) [] h = absurd h
-commands_read n (ws ∷ wss) (c ∷ cs) h =
-    let shape = command_is_line ws c h.0 in
-    rw (words_of_line ws shape.0 shape.1, command_read n ws c h.0, commands_read (n + 1) wss cs h.1) refl
-
 -- ---- the whole
 
--- a line that fits its place is one
-pub fits_line : (medium : Medium) (before : List (List (List ℕ))) (ws : List (List ℕ)) → Fits medium before ws → IsLine ws
-fits_line medium [] ws h = algorithm_is_line ws h.0 h.1
-fits_line medium (a ∷ []) ws h = key_is_line h.0 ws h.1 h.3
-fits_line medium (a ∷ b ∷ []) ws h = randomness_is_line ws h.0 h.1
-fits_line medium (a ∷ b ∷ c ∷ []) ws h = tree_is_line ws h.0 h.1
-fits_line medium (a ∷ b ∷ c ∷ d ∷ []) ws h = start_is_line medium ws h.0 h.1
-fits_line medium (a ∷ b ∷ c ∷ d ∷ e ∷ more) ws h = command_is_line ws h.0 h.1
+module _ {C : Type 0} (SpellsItem : List (List ℕ) → C → Type 0) (item : ℕ → List (List ℕ) → Result C ℕ)
+    (is_line : (ws : List (List ℕ)) (c : C) → SpellsItem ws c → IsLine ws) where
+  -- a line that fits its place is one
+  pub fits_line : (medium : Medium) (before : List (List (List ℕ))) (ws : List (List ℕ)) → FitsLines SpellsItem medium before ws → IsLine ws
+  fits_line medium [] ws h = algorithm_is_line ws h.0 h.1
+  fits_line medium (a ∷ []) ws h = key_is_line h.0 ws h.1 h.3
+  fits_line medium (a ∷ b ∷ []) ws h = randomness_is_line ws h.0 h.1
+  fits_line medium (a ∷ b ∷ c ∷ []) ws h = tree_is_line ws h.0 h.1
+  fits_line medium (a ∷ b ∷ c ∷ d ∷ []) ws h = start_is_line medium ws h.0 h.1
+  fits_line medium (a ∷ b ∷ c ∷ d ∷ e ∷ more) ws h = is_line ws h.0 h.1
 
--- a text that spells a content reads as it
-pub spelled_read : (medium : Medium) (text : List ℕ) (s : Script) → Spells medium text s → script medium text ≡ Ok s
-unfolding script
-spelled_read medium text s h =
-    let l1 = algorithm_is_line h.algorithm_line s.algorithm h.algorithm in
-    let l2 = key_is_line s.algorithm h.key_line s.key h.key in
-    let l3 = randomness_is_line h.randomness_line s.randomness h.randomness in
-    let l4 = tree_is_line h.tree_line s.max_chunks h.tree in
-    let l5 = start_is_line medium h.start_line s.start h.start in
-    let all : AreAllLines (h.algorithm_line ∷ h.key_line ∷ h.randomness_line ∷ h.tree_line ∷ h.start_line ∷ h.command_lines)
-    = (l1.0, l1.1, (l2.0, l2.1, (l3.0, l3.1, (l4.0, l4.1, (l5.0, l5.1, commands_are_lines h.command_lines s.commands h.commands))))) in
-    let cut = ap lines h.spelled ∙ lines_of_text (h.algorithm_line ∷ h.key_line ∷ h.randomness_line ∷ h.tree_line ∷ h.start_line ∷ h.command_lines) all in
-    rw (
-      cut,
-      words_of_line h.algorithm_line l1.0 l1.1,
-      algorithm_read 1 h.algorithm_line s.algorithm h.algorithm,
-      words_of_line h.key_line l2.0 l2.1,
-      key_read 2 s.algorithm h.key_line s.key h.key,
-      words_of_line h.randomness_line l3.0 l3.1,
-      randomness_read 3 h.randomness_line s.randomness h.randomness,
-      words_of_line h.tree_line l4.0 l4.1,
-      tree_read 4 h.tree_line s.max_chunks h.tree,
-      words_of_line h.start_line l5.0 l5.1,
-      start_read 5 medium h.start_line s.start h.start,
-      commands_read 6 h.command_lines s.commands h.commands,
-    ) refl
+  items_are_lines : (wss : List (List (List ℕ))) (cs : List C) → AllZip SpellsItem wss cs → AreAllLines wss
+  items_are_lines [] cs h = tt
+  items_are_lines (ws ∷ wss) [] h = absurd h
+  items_are_lines (ws ∷ wss) (c ∷ cs) h = let one = is_line ws c h.0 in (one.0, one.1, items_are_lines wss cs h.1)
+
+  module _ (read : (n : ℕ) (ws : List (List ℕ)) (c : C) → SpellsItem ws c → item n ws ≡ Ok c) where
+    items_read : (n : ℕ) (wss : List (List (List ℕ))) (cs : List C) → AllZip SpellsItem wss cs → items item n (map (λ ws. Some (join_with_byte 32 ws)) wss) ≡ Ok cs
+    unfolding items
+    items_read n [] [] h = refl
+    items_read n [] (c ∷ cs) h = absurd h
+    items_read n (ws ∷ wss) [] h = absurd h
+    items_read n (ws ∷ wss) (c ∷ cs) h =
+        let shape = is_line ws c h.0 in
+        rw (words_of_line ws shape.0 shape.1, read n ws c h.0, items_read (n + 1) wss cs h.1) refl
+
+    -- a text that spells a content reads as it
+    pub lines_read : (medium : Medium) (text : List ℕ) (s : Settings) (cs : List C) → SpellsLines SpellsItem medium text s cs → whole item medium text ≡ Ok (s, cs)
+    unfolding settings
+    lines_read medium text s cs h =
+        let l1 = algorithm_is_line h.algorithm_line s.algorithm h.algorithm in
+        let l2 = key_is_line s.algorithm h.key_line s.key h.key in
+        let l3 = randomness_is_line h.randomness_line s.randomness h.randomness in
+        let l4 = tree_is_line h.tree_line s.max_chunks h.tree in
+        let l5 = start_is_line medium h.start_line s.start h.start in
+        let all : AreAllLines (h.algorithm_line ∷ h.key_line ∷ h.randomness_line ∷ h.tree_line ∷ h.start_line ∷ h.item_lines)
+        = (l1.0, l1.1, (l2.0, l2.1, (l3.0, l3.1, (l4.0, l4.1, (l5.0, l5.1, items_are_lines h.item_lines cs h.items))))) in
+        let cut = ap lines h.spelled ∙ lines_of_text (h.algorithm_line ∷ h.key_line ∷ h.randomness_line ∷ h.tree_line ∷ h.start_line ∷ h.item_lines) all in
+        rw (
+          cut,
+          words_of_line h.algorithm_line l1.0 l1.1,
+          algorithm_read 1 h.algorithm_line s.algorithm h.algorithm,
+          words_of_line h.key_line l2.0 l2.1,
+          key_read 2 s.algorithm h.key_line s.key h.key,
+          words_of_line h.randomness_line l3.0 l3.1,
+          randomness_read 3 h.randomness_line s.randomness h.randomness,
+          words_of_line h.tree_line l4.0 l4.1,
+          tree_read 4 h.tree_line s.max_chunks h.tree,
+          words_of_line h.start_line l5.0 l5.1,
+          start_read 5 medium h.start_line s.start h.start,
+          items_read 6 h.item_lines cs h.items,
+        ) refl

@@ -1,4 +1,9 @@
 pub mod Words
 pub mod Lines
-pub mod Reading
+pub mod Places
+pub mod Settings
 pub mod Script
+pub mod Conversion
+pub mod LogScript
+pub mod Reading
+pub mod Laws

@@ -1,7 +1,9 @@
--- How a script is read, line by line: its content, or the number of the first wrong line (this project's own).
-use Rattle.std.specs.Prelude.{◌≡◌, ◌∷◌, [], ℕ, ◌+◌, Bool, true, List, length, codes, Option, Some, None, Result, Ok, Err, if◌then◌else◌, ◌==◌, bytes_eq, ◌<◌}
+-- How a text is read, line by line: its content, or the number of the first wrong line (this project's own).
+use Rattle.std.specs.Prelude.{◌≡◌, ◌∷◌, [], ℕ, ◌+◌, Bool, true, false, List, length, codes, Option, Some, None, Result, Ok, Err, if◌then◌else◌, ◌==◌, bytes_eq, ◌<◌}
 use Rattle.raf.specs.declared.command.Command.{Command}
 use Rattle.raf.specs.declared.command.Command.TheVariants.{Read, Write, Truncate, Size, Sync, Rebuild, Verify, Commitment}
+use Rattle.raf_log.specs.declared.command.LogCommand.{LogCommand}
+use Rattle.raf_log.specs.declared.command.LogCommand.TheVariants as log
 use Rattle.aegis_core.specs.Sealing.{key_len}
 use Rattle.raf_format.specs.Numbers.{variant_of}
 use Rattle.raf_format.specs.declared.algorithm_id.AlgorithmId.{AlgorithmId}
@@ -16,7 +18,8 @@ use Rattle.raf_script.specs.declared.script.Randomness.{Randomness}
 use Rattle.raf_script.specs.declared.script.Randomness.TheVariants.{Random, Seed}
 use Rattle.raf_script.specs.declared.script.Start.{Start}
 use Rattle.raf_script.specs.declared.script.Start.TheVariants.{Storage, Create}
-use Rattle.raf_script.specs.declared.script.Script.{Script}
+use Rattle.raf_script.specs.declared.script.Settings.{Settings}
+use Rattle.raf_script.specs.declared.conversion.Conversion.{Conversion}
 use Rattle.raf_script.specs.declared.words.LineWords.{LineWords}
 use Rattle.raf_script.specs.declared.words.LineWords.TheVariants as counts
 
@@ -63,16 +66,37 @@ command_words n (word ∷ a ∷ b ∷ []) = range_command n word a b
 command_words n [] = Err n
 command_words n (word ∷ a ∷ b ∷ c ∷ more) = Err n
 
-abbrev pub command : ℕ → List ℕ → Result Command ℕ
-command n line = command_words n (words line)
+-- `count`, `commitment`
+unfoldable pub plain_log_command : ℕ → List ℕ → Result LogCommand ℕ
+plain_log_command n word =
+    if bytes_eq word (codes "count") then Ok log.Count
+    else if bytes_eq word (codes "commitment") then Ok log.Commitment
+    else Err n
 
--- a command a line, from line n on
-unfoldable pub commands : ℕ → List (Option (List ℕ)) → Result (List Command) ℕ
-commands n [] = Ok []
-commands n (None ∷ more) = Err n
-commands n (Some line ∷ more) = do
-  c ← command n line
-  cs ← commands (n + 1) more
+-- `append <hex>`, `get <index>`
+unfoldable pub entry_command : ℕ → List ℕ → List ℕ → Result LogCommand ℕ
+entry_command n word rest =
+    if bytes_eq word (codes "append") then (do
+      b ← fits n (hex_bytes rest)
+      Ok (log.Append b))
+    else if bytes_eq word (codes "get") then (do
+      i ← fits n (number 64 rest)
+      Ok (log.Get i))
+    else Err n
+
+abbrev pub log_command_words : ℕ → List (List ℕ) → Result LogCommand ℕ
+log_command_words n (word ∷ []) = plain_log_command n word
+log_command_words n (word ∷ a ∷ []) = entry_command n word a
+log_command_words n [] = Err n
+log_command_words n (word ∷ a ∷ b ∷ more) = Err n
+
+-- an item a line, from line n on
+unfoldable pub items : {C : Type 0} → (ℕ → List (List ℕ) → Result C ℕ) → ℕ → List (Option (List ℕ)) → Result (List C) ℕ
+items item n [] = Ok []
+items item n (None ∷ more) = Err n
+items item n (Some line ∷ more) = do
+  c ← item n (words line)
+  cs ← items item (n + 1) more
   Ok (c ∷ cs)
 
 -- the argument of a line of two words that begins with this name
@@ -159,8 +183,9 @@ start_words n medium [] = Err n
 start_words n medium (word ∷ []) = Err n
 start_words n medium (word ∷ a ∷ b ∷ c ∷ more) = Err n
 
-unfoldable pub script : Medium → List ℕ → Result Script ℕ
-script medium text = do
+-- lines 1 to 5, and the lines after them
+unfoldable pub settings : Medium → List ℕ → Result (Settings × List (Option (List ℕ))) ℕ
+settings medium text = do
   l1 ← first 1 (lines text)
   algorithm ← algorithm_words 1 (words l1.0)
   l2 ← first 2 l1.1
@@ -171,5 +196,60 @@ script medium text = do
   tree ← tree_words 4 (words l4.0)
   l5 ← first 5 l4.1
   start ← start_words 5 medium (words l5.0)
-  cs ← commands 6 l5.1
-  Ok (record { algorithm = algorithm; key = key; randomness = randomness; max_chunks = tree; start = start; commands = cs })
+  Ok (record { algorithm = algorithm; key = key; randomness = randomness; max_chunks = tree; start = start }, l5.1)
+
+-- lines 1 to 5, and then an item a line
+abbrev pub whole : {C : Type 0} → (ℕ → List (List ℕ) → Result C ℕ) → Medium → List ℕ → Result (Settings × List C) ℕ
+whole item medium text = do
+  s ← settings medium text
+  cs ← items item 6 s.1
+  Ok (s.0, cs)
+
+-- lines 3 and 6 of a conversion: bytes after a name
+unfoldable pub bytes_words : ℕ → List ℕ → List (List ℕ) → Result (List ℕ) ℕ
+bytes_words n name ws = do
+  text ← argument n name ws
+  fits n (hex_bytes text)
+
+-- line 7 of a conversion: `create <chunk size> <version>`
+abbrev pub create_words : ℕ → List (List ℕ) → Result (ℕ × Version) ℕ
+create_words n (word ∷ text ∷ name ∷ []) = if bytes_eq word (codes "create") then (do
+  size ← fits n (number 32 text)
+  version ← fits n (version_named name)
+  Ok (size, version)) else Err n
+create_words n [] = Err n
+create_words n (word ∷ []) = Err n
+create_words n (word ∷ a ∷ []) = Err n
+create_words n (word ∷ a ∷ b ∷ c ∷ more) = Err n
+
+-- no line is left
+abbrev pub is_end : List (Option (List ℕ)) → Bool
+is_end [] = true
+is_end (l ∷ more) = false
+
+unfoldable pub conversion : List ℕ → Result Conversion ℕ
+conversion text = do
+  l1 ← first 1 (lines text)
+  old_algorithm ← algorithm_words 1 (words l1.0)
+  l2 ← first 2 l1.1
+  old_key ← key_words 2 old_algorithm (words l2.0)
+  l3 ← first 3 l2.1
+  storage ← bytes_words 3 (codes "storage") (words l3.0)
+  l4 ← first 4 l3.1
+  algorithm ← algorithm_words 4 (words l4.0)
+  l5 ← first 5 l4.1
+  key ← key_words 5 algorithm (words l5.0)
+  l6 ← first 6 l5.1
+  random ← bytes_words 6 (codes "random") (words l6.0)
+  l7 ← first 7 l6.1
+  create ← create_words 7 (words l7.0)
+  if is_end l7.1 then Ok (record {
+    old_algorithm = old_algorithm;
+    old_key = old_key;
+    storage = storage;
+    algorithm = algorithm;
+    key = key;
+    random = random;
+    chunk_size = create.0;
+    version = create.1;
+  }) else Err 8

@@ -1,7 +1,8 @@
-//! The lines of a script, and the commands among them.
+//! The lines of a text, and the commands of a script among them.
 ghost use Rattle.std.specs.Prelude.{◌≡◌, ◌^◌, ◌<◌, ◌+◌, ◌∷◌, [], None, IfOk, OnErr, length};
 ghost use Rattle.raf_script.specs.Lines.{Gives, first, lines};
-ghost use Rattle.raf_script.specs.Reading.{plain_command, truncate_command, range_command, command, commands};
+ghost use Rattle.raf_script.specs.Words.{words};
+ghost use Rattle.raf_script.specs.Reading.{plain_command, truncate_command, range_command, command_words, items, is_end};
 
 use crate::script::{Commands, ScriptError};
 use crate::values::{bytes_at, number_at};
@@ -20,6 +21,14 @@ pub fn line_at(number: u64, text: &[u8]) -> Result<(&[u8], &[u8]), ScriptError>
         Some(cut) => Ok(cut),
         None => Err(ScriptError::Line(number)),
     }
+}
+
+/// Whether no line is left.
+#[tactic(auto, using(crate::proofs::PartsLemmas::end_of))]
+pub fn no_line(text: &[u8]) -> bool
+    ensures { result ≡ is_end (lines text.now) }
+{
+    text.is_empty()
 }
 
 // A command of one word.
@@ -79,7 +88,7 @@ fn range_at(
 }
 
 fn command_at(alloc: Global, number: u64, line: &[u8]) -> Result<Command, ScriptError>
-    ensures { Gives (λ c. c) result (command number line.now) }
+    ensures { Gives (λ c. c) result (command_words number (words line.now)) }
 {
     match words_of(line) {
         LineWords::One(word) => plain_at(number, word),
@@ -92,7 +101,7 @@ fn command_at(alloc: Global, number: u64, line: &[u8]) -> Result<Command, Script
 /// The commands of these lines, the first of which has this number.
 pub fn commands_from(alloc: Global, number: u64, text: &[u8]) -> Result<Commands, ScriptError>
     requires { number + length text.now < 2 ^ 64 }
-    ensures { Gives (λ c. c) result (commands number (lines text.now)) }
+    ensures { Gives (λ c. c) result (items command_words number (lines text.now)) }
 {
     let mut list = Commands::new(alloc);
     let mut next = number;

@@ -79,6 +79,21 @@ pub enum Start {
     },
 }
 
+/// The first five lines of a script or of a log.
+#[derive(Drop)]
+pub struct Settings {
+    /// The algorithm that seals the file.
+    pub algorithm: AlgorithmId,
+    /// The file's key, of the algorithm's length.
+    pub key: Data,
+    /// Where the random bytes come from.
+    pub randomness: Randomness,
+    /// The most chunks of the file's tree, where it has one.
+    pub max_chunks: Option<u64>,
+    /// What the storage holds at first.
+    pub start: Start,
+}
+
 /// The content of a script.
 #[derive(Drop)]
 pub struct Script {

@@ -1,14 +1,14 @@
 //! The first five lines of a script, and the whole of it.
-ghost use Rattle.std.specs.Prelude.{◌≡◌, ◌∷◌, [], ◌^◌, ◌<◌, codes, length};
+ghost use Rattle.std.specs.Prelude.{◌≡◌, ◌∷◌, [], ◌^◌, ◌<◌, IfOk, codes, length};
 ghost use Rattle.aegis_core.specs.Sealing as sealing;
 ghost use Rattle.raf_format.specs.Numbers.{variant_of};
 ghost use Rattle.raf_script.specs.Words.{words};
-ghost use Rattle.raf_script.specs.Lines.{Gives, fits};
-ghost use Rattle.raf_script.specs.Script.{Reads};
-ghost use Rattle.raf_script.specs.Reading.{argument, algorithm_named, algorithm_words, key_words, randomness_words, tree_words, version_named, start_words, script, may_hold};
+ghost use Rattle.raf_script.specs.Lines.{Gives, fits, lines};
+ghost use Rattle.raf_script.specs.Script.{Reads, settings_of};
+ghost use Rattle.raf_script.specs.Reading.{argument, algorithm_named, algorithm_words, key_words, randomness_words, tree_words, version_named, start_words, may_hold, command_words, settings, whole};
 
 use crate::lines::{commands_from, line_at};
-use crate::script::{Medium, Randomness, Script, ScriptError, Start};
+use crate::script::{Medium, Randomness, Script, ScriptError, Settings, Start};
 use crate::values::{bytes_at, number_at, small_at};
 use crate::words::{LineWords, words_of};
 use raf::Data;
@@ -17,7 +17,7 @@ use std::alloc::Global;
 
 // The second word of a line of two words, whose first word is this name.
 #[tactic(auto, unfolding(crate::specs::Reading::argument))]
-fn argument_at<'a>(number: u64, name: &[u8], line: &'a [u8]) -> Result<&'a [u8], ScriptError>
+pub fn argument_at<'a>(number: u64, name: &[u8], line: &'a [u8]) -> Result<&'a [u8], ScriptError>
     ensures { Gives (λ x. x.now) result (argument number name.now (words line.now)) }
 {
     match words_of(line) {
@@ -56,7 +56,7 @@ fn algorithm_of(number: u64, name: &[u8]) -> Result<AlgorithmId, ScriptError>
 }
 
 #[tactic(auto, unfolding(crate::specs::Reading::algorithm_words))]
-fn algorithm_at(number: u64, line: &[u8]) -> Result<AlgorithmId, ScriptError>
+pub fn algorithm_at(number: u64, line: &[u8]) -> Result<AlgorithmId, ScriptError>
     ensures { Gives (λ a. a) result (algorithm_words number (words line.now)) }
 {
     let name = argument_at(number, b"alg".as_slice(), line)?;
@@ -74,7 +74,7 @@ fn key_len(algorithm: AlgorithmId) -> usize
 }
 
 #[tactic(auto, unfolding(crate::specs::Reading::key_words))]
-fn key_at(
+pub fn key_at(
     alloc: Global,
     number: u64,
     algorithm: AlgorithmId,
@@ -135,7 +135,7 @@ fn tree_at(number: u64, line: &[u8]) -> Result<Option<u64>, ScriptError>
     }
 }
 
-fn version_at(number: u64, word: &[u8]) -> Result<Version, ScriptError>
+pub fn version_at(number: u64, word: &[u8]) -> Result<Version, ScriptError>
     ensures { Gives (λ v. v) result (fits number (version_named word.now)) }
 {
     if word == b"1".as_slice() {
@@ -226,11 +226,15 @@ fn start_at(alloc: Global, number: u64, medium: Medium, line: &[u8]) -> Result<S
     }
 }
 
-// The content of the script, or its first wrong line.
-#[tactic(auto, unfolding(crate::specs::Reading::script))]
-fn read_script(alloc: Global, text: &[u8], medium: Medium) -> Result<Script, ScriptError>
-    requires { length text.now < 2 ^ 32 }
-    ensures { Gives (λ s. s) result (script medium text.now) }
+/// The settings on the first five lines, and what stands after them.
+#[tactic(auto, unfolding(crate::specs::Reading::settings))]
+pub fn settings_at(
+    alloc: Global,
+    text: &[u8],
+    medium: Medium,
+) -> Result<(Settings, &[u8]), ScriptError>
+    ensures read { Gives (λ x. (x.0, lines x.1.now)) result (settings medium text.now) }
+    ensures shorter { IfOk result (λ x. length x.1.now < length text.now) }
 {
     let (line, rest) = line_at(1, text)?;
     let algorithm = algorithm_at(1, line)?;
@@ -242,13 +246,29 @@ fn read_script(alloc: Global, text: &[u8], medium: Medium) -> Result<Script, Scr
     let max_chunks = tree_at(4, line)?;
     let (line, rest) = line_at(5, rest)?;
     let start = start_at(alloc, 5, medium, line)?;
-    let commands = commands_from(alloc, 6, rest)?;
-    Ok(Script {
+    let settings = Settings {
         algorithm,
         key,
         randomness,
         max_chunks,
         start,
+    };
+    Ok((settings, rest))
+}
+
+// The content of the script, or its first wrong line.
+fn read_script(alloc: Global, text: &[u8], medium: Medium) -> Result<Script, ScriptError>
+    requires { length text.now < 2 ^ 32 }
+    ensures { Gives (λ s. (settings_of s, s.commands)) result (whole command_words medium text.now) }
+{
+    let (settings, rest) = settings_at(alloc, text, medium)?;
+    let commands = commands_from(alloc, 6, rest)?;
+    Ok(Script {
+        algorithm: settings.algorithm,
+        key: settings.key,
+        randomness: settings.randomness,
+        max_chunks: settings.max_chunks,
+        start: settings.start,
         commands,
     })
 }

@@ -1,6 +1,8 @@
 use Rattle.raf_run.proofs.OneText.{one_end, one_text}
 use Rattle.raf_run.proofs.Completeness.{completes, completes_in_memory}
 use Rattle.raf_run.proofs.ShortRandom.{runs_short}
+use Rattle.raf_run.proofs.Verdicts.{converts, one_verdict}
+use Rattle.raf_run.proofs.OneConversion.{one_conversion}
 use Rattle.raf_run.proofs.program.run.Goals as goal
 
 pub returns-clause-one_end : goal.returns-clause-one_end
@@ -17,3 +19,12 @@ returns-clause-completes_in_memory g c = completes_in_memory
 
 pub returns-clause-runs_short : goal.returns-clause-runs_short
 returns-clause-runs_short g c = runs_short
+
+pub returns-clause-converts : goal.returns-clause-converts
+returns-clause-converts g c = converts
+
+pub returns-clause-one_verdict : goal.returns-clause-one_verdict
+returns-clause-one_verdict g c = one_verdict
+
+pub returns-clause-one_conversion : goal.returns-clause-one_conversion
+returns-clause-one_conversion g c = one_conversion

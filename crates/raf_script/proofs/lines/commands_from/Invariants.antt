@@ -1,11 +1,11 @@
 use Rattle.std.proofs.Common.{◌≡◌, ◌≤◌, ◌+◌, length}
 use Rattle.raf_script.specs.Lines.{lines}
-use Rattle.raf_script.specs.Reading.{commands}
-use Rattle.raf_script.proofs.CommandLemmas.{with_front}
+use Rattle.raf_script.specs.Reading.{command_words, items}
+use Rattle.raf_script.proofs.ItemLemmas.{with_front}
 use Rattle.raf_script.proofs.lines.commands_from.Given as goal
 
 abbrev pub invariant-loop-rest : goal.invariant-loop-rest
-invariant-loop-rest l = (with_front l.list (commands l.next (lines l.rest)) ≡ commands l.number (lines l.text))
+invariant-loop-rest l = (with_front l.list (items command_words l.next (lines l.rest)) ≡ items command_words l.number (lines l.text))
     × (l.next + length l.rest ≤ l.number + length l.text)
 
 abbrev pub decreases-loop-rest : goal.decreases-loop-rest

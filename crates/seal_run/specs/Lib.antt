@@ -1,0 +1,5 @@
+pub mod Pieces
+pub mod Ends
+pub mod Sealing
+pub mod Unsealing
+pub mod Steps
