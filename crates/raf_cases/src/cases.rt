@@ -256,8 +256,9 @@ impl Case {
                 self.block = Some(Block::Moved(number(room)? as usize));
                 Ok(())
             }
+            ["cut-source" | "flip-source" | "more-source", ..] => self.program.change(words),
             [
-                "disk" | "fail-read" | "fail-write" | "by-byte" | "spaces" | "source",
+                "disk" | "fail-read" | "fail-write" | "by-byte" | "spaces" | "source" | "as-bytes",
                 ..
             ] => { self.program.set(alloc, words) }
             _ => ask(alloc, &mut self.bench, words, report),
