@@ -1,6 +1,7 @@
 //! The lines of cases, one after the other.
 use crate::bench::Bench;
 use crate::comparing::play_both;
+use crate::moving::play_moved;
 use crate::playing::{Mode, play_hashed};
 use crate::programs::{Program, words_of};
 use crate::questions::ask;
@@ -10,6 +11,7 @@ use crate::words::{Fault, key_of, number};
 use raf::{
     Aegis128L, Aegis128X2, Aegis128X4, Aegis256, Aegis256X2, Aegis256X4, AlgorithmId, unprotected,
 };
+use raf_run::Words;
 use std::alloc::Global;
 use std::mem;
 
@@ -20,10 +22,10 @@ enum Block {
     Steps(Mode),
     /// What two files are asked, after they were compared.
     Both,
-    /// A script that is run in memory.
-    Script,
-    /// A script that is run over the disk.
-    File,
+    /// What two files are asked, after the first was moved into the second by pieces of so many bytes.
+    Moved(usize),
+    /// What the program reads.
+    Program,
 }
 
 /// The case that is read.
@@ -33,6 +35,7 @@ pub struct Case {
     other: Bench,
     program: Program,
     block: Option<Block>,
+    words: Words,
     steps: Vec<Step>,
     name: String,
     count: u64,
@@ -108,8 +111,6 @@ fn block_of(words: &[&str]) -> Option<Block> {
         ["log"] => Some(Block::Steps(Mode::Log)),
         ["log-session"] => Some(Block::Steps(Mode::LogSession)),
         ["clash"] => Some(Block::Both),
-        ["script"] => Some(Block::Script),
-        ["file"] => Some(Block::File),
         _ => None,
     }
 }
@@ -122,6 +123,7 @@ impl Case {
             other: Bench::new(alloc),
             program: Program::new(alloc),
             block: None,
+            words: Words::new(Vec::new(alloc)),
             steps: Vec::new(alloc),
             name: String::new(alloc),
             count: 0,
@@ -157,12 +159,18 @@ impl Case {
     fn run_program(
         &mut self,
         alloc: Global,
-        words: &[&str],
+        words: &Words,
         report: &mut Report,
     ) -> Result<(), Fault> {
-        let words = words_of(alloc, words)?;
         let fail = self.bench.take_fail(alloc);
-        self.program.run(alloc, &words, fail, report)
+        self.program.run(alloc, words, fail, report)
+    }
+
+    // Begins a block for the program, which is run with these words at its end.
+    fn begin_program(&mut self, alloc: Global, words: &[&str]) -> Result<(), Fault> {
+        self.words = words_of(alloc, words)?;
+        self.block = Some(Block::Program);
+        Ok(())
     }
 
     // Does what the block asks for, at its end.
@@ -177,8 +185,21 @@ impl Case {
                 let steps = mem::replace(&mut self.steps, Vec::new(alloc));
                 play_both(alloc, &mut self.bench, &mut self.other, &steps, report)
             }
-            Block::Script => self.run_program(alloc, &["script"], report),
-            Block::File => self.run_program(alloc, &["file", "disk"], report),
+            Block::Moved(room) => {
+                let steps = mem::replace(&mut self.steps, Vec::new(alloc));
+                play_moved(
+                    alloc,
+                    &mut self.bench,
+                    &mut self.other,
+                    room,
+                    &steps,
+                    report,
+                )
+            }
+            Block::Program => {
+                let words = mem::replace(&mut self.words, Words::new(Vec::new(alloc)));
+                self.run_program(alloc, &words, report)
+            }
         }
     }
 
@@ -193,13 +214,13 @@ impl Case {
     ) -> Result<(), Fault> {
         match (block, words) {
             (_, ["end"]) => self.run(alloc, block, report),
-            (Block::Steps(_) | Block::Both, [] | ["#", ..]) => Ok(()),
-            (Block::Steps(_) | Block::Both, _) => Ok(self.steps.push(step_of(alloc, words)?)?),
-            (_, ["end", "unended"]) => {
+            (Block::Program, ["end", "unended"]) => {
                 self.program.cut_line();
                 self.run(alloc, block, report)
             }
-            _ => self.program.take_line(line),
+            (Block::Program, _) => self.program.take_line(line),
+            (_, [] | ["#", ..]) => Ok(()),
+            _ => Ok(self.steps.push(step_of(alloc, words)?)?),
         }
     }
 
@@ -226,10 +247,18 @@ impl Case {
             }
             ["words", words @ ..] => {
                 self.program.fail_at_once()?;
-                self.run_program(alloc, words, report)
+                self.run_program(alloc, &words_of(alloc, words)?, report)
             }
+            ["script"] => self.begin_program(alloc, &["script"]),
+            ["file"] => self.begin_program(alloc, &["file", "disk"]),
+            ["run", words @ ..] => self.begin_program(alloc, words),
+            ["convert", room] => {
+                self.block = Some(Block::Moved(number(room)? as usize));
+                Ok(())
+            }
+            ["cut-source" | "flip-source" | "more-source", ..] => self.program.change(words),
             [
-                "disk" | "fail-read" | "fail-write" | "by-byte" | "spaces",
+                "disk" | "fail-read" | "fail-write" | "by-byte" | "spaces" | "source" | "as-bytes",
                 ..
             ] => { self.program.set(alloc, words) }
             _ => ask(alloc, &mut self.bench, words, report),

@@ -10,8 +10,8 @@ use raf::{
 };
 use std::alloc::Global;
 
-// The file in a bench's storage, or None where it is refused, which is told.
-fn open<A: Algorithm, H: Counted>(
+/// The file in a bench's storage, or None where it is refused, which is told.
+pub fn open<A: Algorithm, H: Counted>(
     alloc: Global,
     bench: &mut Bench,
     builder: RafBuilder<A, VecRng, H>,
@@ -51,8 +51,8 @@ fn damage(io: &mut MemIo, place: Option<(u64, u8)>) -> Result<(), Fault> {
     }
 }
 
-// Takes the steps on a file, and closes it. Tells what its storage holds, and where more was asked than may be.
-fn close<A: Algorithm, H: Counted>(
+/// Takes the steps on a file, and closes it. Tells what its storage holds, and where more was asked than may be.
+pub fn close<A: Algorithm, H: Counted>(
     alloc: Global,
     bench: &mut Bench,
     mut file: File<A, H>,

@@ -5,6 +5,7 @@ mod bench;
 mod cases;
 mod comparing;
 mod logging;
+mod moving;
 mod playing;
 mod programs;
 mod proving;

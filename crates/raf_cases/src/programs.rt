@@ -3,8 +3,8 @@ ghost use Rattle.std.specs.Prelude.{Some};
 
 use crate::report::Report;
 use crate::words::{Fault, data, number, numbers};
-use raf::MemIo;
 use program_io::{Failed, Sink, Source, VecSink, VecSource};
+use raf::MemIo;
 use raf_run::{Ran, Words, run};
 use std::alloc::{AllocError, Global};
 use std::mem;
@@ -44,6 +44,7 @@ pub struct Program {
     fail_read: Vec<u64>,
     fail_write: Vec<u64>,
     by_byte: bool,
+    as_bytes: bool,
     disk: Option<Vec<u8>>,
 }
 
@@ -83,6 +84,7 @@ impl Program {
             fail_read: Vec::new(alloc),
             fail_write: Vec::new(alloc),
             by_byte: false,
+            as_bytes: false,
             disk: None,
         }
     }
@@ -94,9 +96,25 @@ impl Program {
             ["fail-read", calls @ ..] => self.fail_read = numbers(alloc, calls)?,
             ["fail-write", calls @ ..] => self.fail_write = numbers(alloc, calls)?,
             ["by-byte"] => self.by_byte = true,
+            ["as-bytes"] => self.as_bytes = true,
+            ["source", word] => self.script = data(alloc, word)?,
             ["spaces", count] => {
                 self.script = Vec::from_elem(alloc, b' ', number(count)? as usize)?;
             }
+            _ => return Err(Fault::Line),
+        }
+        Ok(())
+    }
+
+    /// Changes what the next run reads, as these words say.
+    pub fn change(&mut self, words: &[&str]) -> Result<(), Fault> {
+        match words {
+            ["cut-source", len] => self.script.truncate(number(len)? as usize),
+            ["flip-source", offset] => match self.script.get_mut(number(offset)? as usize) {
+                Some(place) => *place ^= 1,
+                None => return Err(Fault::Line),
+            },
+            ["more-source"] => self.script.push(0)?,
             _ => return Err(Fault::Line),
         }
         Ok(())
@@ -119,16 +137,23 @@ impl Program {
         let _end = self.script.pop();
     }
 
-    // Tells what a run wrote and answered, and keeps the disk.
+    // Tells what a run wrote and answered, and keeps the disk; what was written as bytes is what the next run reads.
     fn finish(
         &mut self,
         had_disk: bool,
+        as_bytes: bool,
         ran: Ran<MemIo>,
         written: &[u8],
         report: &mut Report,
     ) -> Result<(), Fault> {
         let Ran { status, disk } = ran;
-        report.text(written)?;
+        if as_bytes {
+            self.script.clear();
+            self.script.extend_from_slice(written)?;
+            report.bytes("written", written)?;
+        } else {
+            report.text(written)?;
+        }
         report.number("status", status as u64)?;
         if let Some(disk) = disk {
             report.asked(&disk)?;
@@ -159,9 +184,9 @@ impl Program {
             let mut source = OneByte { inner: source };
             let mut sink = OneByte { inner: sink };
             let ran = play(alloc, words, &mut source, &mut sink, disk);
-            return self.finish(had_disk, ran, sink.inner.written(), report);
+            return self.finish(had_disk, own.as_bytes, ran, sink.inner.written(), report);
         }
         let ran = play(alloc, words, &mut source, &mut sink, disk);
-        self.finish(had_disk, ran, sink.written(), report)
+        self.finish(had_disk, own.as_bytes, ran, sink.written(), report)
     }
 }

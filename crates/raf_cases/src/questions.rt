@@ -1,9 +1,9 @@
-//! Lines that ask one thing: what a header tells, a derived key, the length of a storage, what a proof shows.
+//! Lines that ask one thing: what a header tells, a derived key, the length of a storage, what a proof shows; and the repair of a storage.
 use crate::bench::Bench;
 use crate::proving::{ask_changed, ask_check};
 use crate::report::Report;
 use crate::words::{Fault, chunk_size_of, data, key_of, number};
-use raf::{MemIo, derive_key, probe};
+use raf::{Aegis128L, Aegis256, AlgorithmId, MemIo, derive_key, probe, repair};
 use raf_format::layout_len;
 use std::alloc::Global;
 
@@ -58,6 +58,28 @@ fn ask_layout(
     }
 }
 
+// Gives the bench's storage the length that its header says, under algorithm 1 or 4.
+fn ask_repair(alloc: Global, bench: &mut Bench, report: &mut Report) -> Result<(), Fault> {
+    let storage = bench.take_storage(alloc);
+    let mut io = MemIo::new(alloc, storage, bench.take_fail(alloc));
+    let answer = match bench.algorithm {
+        AlgorithmId::Aegis128L => {
+            repair::<Aegis128L, MemIo>(&mut io, &key_of::<16>(&bench.key)?)
+        }
+        AlgorithmId::Aegis256 => repair::<Aegis256, MemIo>(&mut io, &key_of::<32>(&bench.key)?),
+        _ => return Err(Fault::Line),
+    };
+    match answer {
+        Ok(true) => report.line("repaired")?,
+        Ok(false) => report.line("nothing to repair")?,
+        Err(error) => report.kind("refused", error.kind())?,
+    }
+    report.asked(&io)?;
+    report.bytes("storage", io.bytes())?;
+    bench.storage = io.into_bytes();
+    Ok(())
+}
+
 /// Answers what these words ask, or sets what they say.
 pub fn ask(
     alloc: Global,
@@ -67,6 +89,7 @@ pub fn ask(
 ) -> Result<(), Fault> {
     match words {
         ["probe"] => ask_probe(alloc, bench, report),
+        ["repair"] => ask_repair(alloc, bench, report),
         ["derive", key, context] => ask_key(&data(alloc, key)?, &data(alloc, context)?, report),
         ["layout", nonce_len, tag_len, chunk_size, size] => {
             let chunk_size = chunk_size_of(chunk_size)?;
