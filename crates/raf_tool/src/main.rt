@@ -1,8 +1,8 @@
 //! The program `raf_tool`: a script of commands over an encrypted file, in memory or on a disk, in, and its replies, out.
 #![tactic(auto)]
 
-use raf_os::FileIo;
 use program_io::{ReadSource, WriteSink};
+use raf_os::FileIo;
 use raf_run::{Words, run};
 use std::alloc::AllocError;
 use std::fs::File;
