@@ -15,6 +15,7 @@ pub mod Needed
 pub mod ReadSteps
 pub mod OldOrOpenedBytes
 pub mod Runs
+pub mod Starvings
 pub mod Decided
 pub mod Progress
 pub mod Sizes

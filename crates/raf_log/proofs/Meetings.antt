@@ -1,5 +1,5 @@
 -- A log's session, from an opening and the run of its commands.
-use Rattle.std.proofs.Common.{◌≡◌, inl, inr, false, ℕ, ◌+◌, ◌<◌, ◌≤◌, ◌^◌, List, [], ◌∷◌, length, take, Option, Some, None, Result, Ok, Err, refl, sym, ◌∙◌, ap, subst, arith}
+use Rattle.std.proofs.Common.{◌≡◌, inl, inr, Bool, false, ℕ, ◌+◌, ◌<◌, ◌≤◌, ◌^◌, List, [], ◌∷◌, length, take, Option, Some, None, Result, Ok, Err, refl, sym, ◌∙◌, ap, subst, arith}
 use Rattle.std.specs.Prelude.{◌⊎◌, unwrap_or}
 use Rattle.std.specs.Option.{option_map}
 use Rattle.std.proofs.lemmas.Bool.{false≢true}
@@ -14,8 +14,9 @@ use Rattle.raf_io.specs.Kinds.{kind_of}
 use Rattle.raf_io.specs.declared.errors.Error.{Error}
 use Rattle.raf_io.specs.declared.errors.Error.TheVariants as error
 use Rattle.raf_io.specs.declared.errors.ErrorKind.TheVariants.{Io, InvalidArgument, AuthenticationFailed, AlreadyExists, NotFound, Overflow, MerkleNotEnabled, CorruptedChunk, Rng, Hash, Broken, OutOfMemory}
-use Rattle.raf.specs.Apply.{longest}
-use Rattle.raf.specs.Image.{asked_in, changes_in, traffic_in, calls_in}
+use Rattle.raf.specs.Apply.{file_after, longest}
+use Rattle.raf.specs.Meaning.{Starved}
+use Rattle.raf.specs.Image.{traced, asked_in, changes_in, traffic_in, calls_in}
 use Rattle.raf.specs.Outside.{Outside, Kept, Quiet, Moved}
 use Rattle.raf.specs.Handle.{Handle, Holds, WithTree, Grown, limit_of, hash_len_of, outline}
 use Rattle.raf.specs.Opening.{Settings, NotOpened, Opened, Room, opening_traffic, opening_calls}
@@ -212,6 +213,9 @@ module _ (C : Cipher) (E : List ℕ → Hashing) (key : List ℕ) (s : Settings)
           short = λ is ex. f.short is (exact ∙ ex);
           taken = subst (λ (o : Option (List ℕ)). Takes o f.nonces f.middle) left f.taken;
           left = f.left;
+          starved = λ is.
+              subst (λ (x : Bool). Starved G.cipher G.key (file_after G.limit (opened.holds b tells).0 f.done) f.command (traced G.limit G.cipher G.key (opened.holds b tells).0 f.done f.nonces b) x f.middle after.bytes)
+              exact (f.starved is);
           bytes = f.bytes;
           tells = f.tells;
           settled = f.settled;

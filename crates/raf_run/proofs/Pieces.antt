@@ -201,6 +201,14 @@ module _ (F : File) (short : (i : ℕ) (m : List ℕ) → slice_get F.chunks i �
 
 -- ---- pieces that were moved
 
+-- pieces of a file from an offset on, whose writes to a file with such nonces and chunks find the random bytes that they ask; the next
+-- piece's write finds too few
+abbrev pub Wants : File → ℕ → ℕ → ℕ → ℕ → List (List ℕ) → Type 0
+Wants F nonce_len chunk_size o left [] = left < asked_at nonce_len chunk_size o (min piece_len (F.size - o))
+Wants F nonce_len chunk_size o left (p ∷ ps) =
+    (asked_at nonce_len chunk_size o (length p) ≤ left)
+    × Wants F nonce_len chunk_size (o + length p) (left - asked_at nonce_len chunk_size o (length p)) ps
+
 pub count_step : (s : ℕ) → 0 < s → chunk_count 65536 s ≡ suc (chunk_count 65536 (s - min 65536 s))
 count_step s some = omega arith
 
@@ -306,3 +314,30 @@ module _ (F : File) where
       (size G o x xs at there fits) (in_size_more G o left x xs ps at in_size lt len are there can read enough) (are_more G o left x xs ps at in_size lt len are there can read enough) some
       (all_there G o x xs at there fits some count) (counted G o x xs at there fits) can (read_more G o left x xs ps at in_size lt len are there can read enough) refl
       (enough_more G o left x xs ps at in_size lt len are there can read enough))
+
+  -- the pieces find their random bytes, where all of them do
+  pub wants : (ps : List (List ℕ)) (G : File) (o left : ℕ) → G.size ≡ o → o ≤ F.size → ArePieces piece_len (F.size - o) ps → 0 < G.shape.chunk_size → AllThere G.chunks
+      → length G.chunks ≡ chunk_count G.shape.chunk_size G.size → can_have None G F.size ≡ true
+      → ((at len : ℕ) → at + len ≤ o + length (concat ps) → none_missing (needed F (command.Read at len)) 0 F.chunks ≡ true)
+      → asked_in None G (writes o ps) ≤ left
+      → left - asked_in None G (writes o ps) < asked_at G.shape.nonce_len G.shape.chunk_size (o + length (concat ps)) (min piece_len (F.size - (o + length (concat ps))))
+      → Wants F G.shape.nonce_len G.shape.chunk_size o left ps
+  wants [] G o left at in_size are some there count can read enough few =
+      let none : o + 0 ≡ o = omega arith in
+      let more : left < asked_at G.shape.nonce_len G.shape.chunk_size (o + 0) (min piece_len (F.size - (o + 0))) = omega (arith, few) in
+      subst (λ (p : ℕ). left < asked_at G.shape.nonce_len G.shape.chunk_size p (min piece_len (F.size - p))) none more
+  wants ([] ∷ ps) G o left at in_size (lt, len, are) some there count can read enough few = absurd (omega (arith, lt, len))
+  wants ((x ∷ xs) ∷ ps) G o left at in_size (lt, len, are) some there count can read enough few =
+      let fits = fits_piece G o left x xs ps at in_size lt len are there can read enough in
+      let a = asks G o left x xs ps at in_size lt len are there can read enough in
+      let s = sum G o left x xs ps at in_size lt len are there can read enough in
+      let l = all G o left x xs ps at in_size lt len are there can read enough in
+      let place : o + length ((x ∷ xs) ++ concat ps) ≡ o + length (x ∷ xs) + length (concat ps) = omega (arith, l) in
+      let few_at = subst (λ (p : ℕ). left - asked_in None G (writes o ((x ∷ xs) ∷ ps)) < asked_at G.shape.nonce_len G.shape.chunk_size p (min piece_len (F.size - p))) place few in
+      let rest = wants ps (after G (write_change G.size o (x ∷ xs))) (o + length (x ∷ xs)) (left - asked_by None G (command.Write o (x ∷ xs)))
+      (size G o x xs at there fits) (in_size_more G o left x xs ps at in_size lt len are there can read enough) (are_more G o left x xs ps at in_size lt len are there can read enough) some
+      (all_there G o x xs at there fits some count) (counted G o x xs at there fits) can (read_more G o left x xs ps at in_size lt len are there can read enough)
+      (enough_more G o left x xs ps at in_size lt len are there can read enough) (omega (arith, few_at, s)) in (
+        omega (arith, a, s, enough),
+        subst (λ (n : ℕ). Wants F G.shape.nonce_len G.shape.chunk_size (o + length (x ∷ xs)) (left - n) ps) a rest,
+      )

@@ -10,7 +10,8 @@ use Rattle.raf.specs.Read.{IsByteOf}
 use Rattle.raf.specs.declared.command.Command.TheVariants as command
 use Rattle.raf.proofs.Between.{Short}
 use Rattle.raf_run.specs.Conversions.{piece_len}
-use Rattle.raf_run.proofs.Pieces.{one_index, none_missing_read}
+use Rattle.raf_run.specs.ConversionLaws.{asked_at}
+use Rattle.raf_run.proofs.Pieces.{Wants, one_index, none_missing_read}
 
 -- each of the bytes that stand from an offset on is a byte of the file
 abbrev pub Readable : File → ℕ → List (List ℕ) → Type 0
@@ -63,6 +64,11 @@ module _ (F : File) (short : Short F.shape.chunk_size F.chunks) where
   piece_one o p q ps qs long read read' =
       ext_get_or 0 p q long (λ k lt. byte_one (o + k) (get_or p k 0) (get_or q k 0) (front o p ps read k lt) (front o q qs read' k (omega (arith, lt, long))))
 
+  -- one piece alone stands at an offset
+  pub piece_of : (o : ℕ) (p q : List ℕ) → length p ≡ length q → ((k : ℕ) → k < length p → IsByteOf F.shape.chunk_size F.chunks (o + k) (slice_index p k))
+      → ((k : ℕ) → k < length q → IsByteOf F.shape.chunk_size F.chunks (o + k) (slice_index q k)) → p ≡ q
+  piece_of o p q long read read' = ext_get_or 0 p q long (λ k lt. byte_one (o + k) (get_or p k 0) (get_or q k 0) (read k lt) (read' k (omega (arith, lt, long))))
+
   rest : (o : ℕ) (p : List ℕ) (ps : List (List ℕ)) → length p ≡ min piece_len (F.size - o) → ArePieces piece_len (F.size - o - piece_len) ps → ArePieces piece_len (F.size - (o + length p)) ps
   rest o p ps len are = let e : F.size - o - 65536 ≡ F.size - (o + length p) = omega (arith, len) in subst (λ (n : ℕ). ArePieces piece_len n ps) e are
 
@@ -79,4 +85,22 @@ module _ (F : File) (short : Short F.shape.chunk_size F.chunks) where
       (behind o p ps read) (subst (λ (n : ℕ). Readable F n qs) at (behind o q qs read'))
       (subst (Stops F) (let e : o + length (p ++ concat ps) ≡ o + length p + length (concat ps) = omega (arith, length-append p (concat ps)) in e) stop)
       (subst (Stops F) (let e : o + length (q ++ concat qs) ≡ o + length p + length (concat qs) = omega (arith, length-append q (concat qs), len, len') in e) stop') in
+      λ i. same i ∷ others i
+
+  -- so are those that find their random bytes, up to the first that doesn't
+  pub dried_one : (nonce_len chunk_size o left : ℕ) (ps qs : List (List ℕ)) → ArePieces piece_len (F.size - o) ps → ArePieces piece_len (F.size - o) qs → Readable F o ps → Readable F o qs
+      → Wants F nonce_len chunk_size o left ps → Wants F nonce_len chunk_size o left qs → ps ≡ qs
+  dried_one nonce_len chunk_size o left [] [] are are' read read' want want' = refl
+  dried_one nonce_len chunk_size o left [] (q ∷ qs) are (more, len, are') read read' want (fits, want') =
+      absurd (omega (arith, want, fits, ap (asked_at nonce_len chunk_size o) len))
+  dried_one nonce_len chunk_size o left (p ∷ ps) [] (more, len, are) are' read read' (fits, want) want' =
+      absurd (omega (arith, want', fits, ap (asked_at nonce_len chunk_size o) len))
+  dried_one nonce_len chunk_size o left (p ∷ ps) (q ∷ qs) (more, len, are) (more', len', are') read read' (fits, want) (fits', want') =
+      let long : length q ≡ length p = len' ∙ sym len in
+      let same = piece_one o p q ps qs (sym long) read read' in
+      let others : ps ≡ qs =
+      dried_one nonce_len chunk_size (o + length p) (left - asked_at nonce_len chunk_size o (length p)) ps qs (rest o p ps len are)
+      (subst (λ (n : ℕ). ArePieces piece_len (F.size - (o + n)) qs) long (rest o q qs len' are'))
+      (behind o p ps read) (subst (λ (n : ℕ). Readable F (o + n) qs) long (behind o q qs read'))
+      want (subst (λ (n : ℕ). Wants F nonce_len chunk_size (o + n) (left - asked_at nonce_len chunk_size o n) qs) long want') in
       λ i. same i ∷ others i

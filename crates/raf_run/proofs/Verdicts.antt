@@ -22,11 +22,12 @@ use Rattle.raf.specs.Converted.{Begins, ArePieces, writes, Filled, Moves, Unread
 use Rattle.raf.specs.Due.{is_fault}
 use Rattle.raf.specs.Handle.{Handle, Holds, limit_of, outline}
 use Rattle.raf.specs.Image.{asked_by, asked_in, traced}
-use Rattle.raf.specs.Meaning.{Faultable}
+use Rattle.raf.specs.Meaning.{Faultable, Starved}
 use Rattle.raf.specs.Opening.{Settings, Opened, Made, IsChunkSize}
 use Rattle.raf.specs.Outside.{Caused}
 use Rattle.raf.specs.Read.{IsByteOf}
 use Rattle.raf.specs.Stepped.{Failed, with_size}
+use Rattle.raf.specs.declared.command.Command.{Command}
 use Rattle.raf.specs.declared.command.Command.TheVariants as command
 use Rattle.raf.specs.declared.command.Reply.TheVariants.{Refused}
 use Rattle.raf.specs.declared.converting.ConvertError.{ConvertError}
@@ -46,7 +47,7 @@ use Rattle.raf_run.proofs.OneText.{taken_so_many, new_file, NewFile, some_same}
 use Rattle.raf_run.proofs.SamePieces.{Readable, Stops}
 use Rattle.raf_run.proofs.Openings.{one_cause, no_cause, size_is}
 use Rattle.raf_run.proofs.Refusals.{kind_status, refused_told, EndsRight, refused_right, unopened_right, unmade_right}
-use Rattle.raf_run.proofs.Pieces.{AllThere, asked, moved_on, none_missing_read, count_step}
+use Rattle.raf_run.proofs.Pieces.{AllThere, Wants, asked, moved_on, wants, none_missing_read, count_step}
 
 -- ---- the old file is moved
 
@@ -56,12 +57,39 @@ stored c pieces =
     let G : File = outline (new_ground c).cipher (header_of c) in
     traced None (new_ground c).cipher c.key G (writes 0 pieces) (take (asked_in None G (writes 0 pieces)) (drop 32 c.random)) (sealed_header (new_ground c).cipher c.key (header_of c))
 
--- what a conversion of an old file leaves in the new storage, unless random bytes are wanting for a piece
-abbrev pub Leaves : Conversion → File → List ℕ → Type 0
-Leaves c F storage =
-    ((can_have None (outline (new_ground c).cipher (header_of c)) F.size ≡ false) × (storage ≡ sealed_header (new_ground c).cipher c.key (header_of c)))
-    ⊎ ((can_have None (outline (new_ground c).cipher (header_of c)) F.size ≡ true) × Short F.shape.chunk_size F.chunks
+-- the random bytes that are left once these pieces were moved
+abbrev pub left_behind : Conversion → List (List ℕ) → List ℕ
+left_behind c pieces = drop (asked_in None (outline (new_ground c).cipher (header_of c)) (writes 0 pieces)) (drop 32 c.random)
+
+abbrev pub StarvedBy : Conversion → List ℕ → List (List ℕ) → List ℕ → Type 0
+StarvedBy c storage pieces piece =
+    Starved (new_ground c).cipher c.key (file_after None (outline (new_ground c).cipher (header_of c)) (writes 0 pieces))
+    (command.Write (length (concat pieces)) piece) (stored c pieces) true (Some (left_behind c pieces)) (Some storage)
+
+-- what the write of a piece leaves that found too few random bytes, behind the pieces that found theirs
+pub record Dries (c : Conversion) (F : File) (storage : List ℕ) : Type 0 where
+  pub refused : refusal c F ≡ Some Rng
+  pub short : Short F.shape.chunk_size F.chunks
+  pub pieces : List (List ℕ)
+  pub are : ArePieces piece_len (F.size - 0) pieces
+  pub read : Readable F 0 pieces
+  pub wants : Wants F (new_ground c).cipher.nonce_len c.chunk_size 0 (length c.random - 32) pieces
+  pub piece : List ℕ
+  pub len : length piece ≡ min piece_len (F.size - length (concat pieces))
+  pub byte : (k : ℕ) → k < length piece → IsByteOf F.shape.chunk_size F.chunks (length (concat pieces) + k) (slice_index piece k)
+  pub starved : StarvedBy c storage pieces piece
+
+-- what it leaves that was refused by its size, moved whole, or stopped at a piece that can't be read
+abbrev pub Kept : Conversion → File → List ℕ → Type 0
+Kept c F storage =
+    ((can_have None (outline (new_ground c).cipher (header_of c)) F.size ≡ false) × (refusal c F ≡ Some Overflow) × (storage ≡ sealed_header (new_ground c).cipher c.key (header_of c)))
+    ⊎ ((can_have None (outline (new_ground c).cipher (header_of c)) F.size ≡ true)
+    × ((refusal c F ≡ None) ⊎ (refusal c F ≡ Some AuthenticationFailed)) × Short F.shape.chunk_size F.chunks
     × ((pieces : List (List ℕ)) × ArePieces piece_len (F.size - 0) pieces × Readable F 0 pieces × Stops F (0 + length (concat pieces)) × (storage ≡ stored c pieces)))
+
+-- what a conversion of an old file leaves in the new storage
+abbrev pub Leaves : Conversion → File → List ℕ → Type 0
+Leaves c F storage = Dries c F storage ⊎ Kept c F storage
 
 -- an open old file, and a new one
 module _ (c : Conversion) (from to : Handle) (old_builder : Settings) (old_is : BuilderOf (old_ground c) old_builder)
@@ -185,6 +213,9 @@ module _ (c : Conversion) (from to : Handle) (old_builder : Settings) (old_is : 
     in_all : length (concat pieces) ≤ F.size
     in_all = omega (arith, total_le piece_len from.header.file_size pieces moves.are, size_F)
 
+    can_G : can_have None G F.size ≡ true
+    can_G = ap (λ (s : Shape). can_have None (record { shape = s; id = []; size = 0; chunks = [] }) F.size) shape_G ∙ can
+
     -- the first cause is that of the rest
     goes_on : refusal c F ≡ P F (chunk_count piece_len (F.size - length (concat pieces))) (length (concat pieces)) (length c.random - 32 - asked_in None G (writes 0 pieces))
     goes_on =
@@ -195,9 +226,6 @@ module _ (c : Conversion) (from to : Handle) (old_builder : Settings) (old_is : 
         ∙ ap (λ (s : Shape). piece_refusal s.nonce_len s.chunk_size F (chunk_count piece_len (F.size - (0 + length (concat pieces)))) (0 + length (concat pieces)) (length c.random - 32 - asked_in None G (writes 0 pieces))) shape_G
         ∙ ap (λ (n : ℕ). P F (chunk_count piece_len (F.size - n)) n (length c.random - 32 - asked_in None G (writes 0 pieces))) (let e : 0 + length (concat pieces) ≡ length (concat pieces) = omega arith in e)
       where
-        can_G : can_have None G F.size ≡ true
-        can_G = ap (λ (s : Shape). can_have None (record { shape = s; id = []; size = 0; chunks = [] }) F.size) shape_G ∙ can
-
         whole : chunk_count piece_len F.size ≡ chunk_count piece_len (F.size - 0)
         whole = ap (chunk_count piece_len) (let e : F.size ≡ F.size - 0 = omega arith in e)
 
@@ -211,15 +239,16 @@ module _ (c : Conversion) (from to : Handle) (old_builder : Settings) (old_is : 
         ∙ ap (λ (b : List ℕ). Some (traced None D c.key G (writes 0 pieces) (take (asked_in None G (writes 0 pieces)) (drop 32 c.random)) b)) (some_same (sym holds_G.tells ∙ header_bytes))
         ∙ ap (λ (G : File). Some (traced None D c.key G (writes 0 pieces) (take (asked_in None G (writes 0 pieces)) (drop 32 c.random)) (sealed_header D c.key (header_of c)))) G_is
 
-    leaves : (storage : List ℕ) → there.outside.bytes ≡ Some storage → Stops F (length (concat pieces)) → Leaves c F storage
-    leaves storage tells stop = inr (
+    read_all : Readable F 0 pieces
+    read_all k lt = subst (λ (n : ℕ). IsByteOf F.shape.chunk_size F.chunks n (slice_index (concat pieces) k)) (let e : k ≡ 0 + k = omega arith in e) (begins k lt)
+
+    leaves : (storage : List ℕ) → there.outside.bytes ≡ Some storage → (refusal c F ≡ None) ⊎ (refusal c F ≡ Some AuthenticationFailed) → Stops F (length (concat pieces)) → Leaves c F storage
+    leaves storage tells why stop = inr (inr (
       can,
+      why,
       short_F,
-      (pieces, are, read, subst (Stops F) (let e : length (concat pieces) ≡ 0 + length (concat pieces) = omega arith in e) stop, some_same (sym tells ∙ stored_there)),
-    )
-      where
-        read : Readable F 0 pieces
-        read k lt = subst (λ (n : ℕ). IsByteOf F.shape.chunk_size F.chunks n (slice_index (concat pieces) k)) (let e : k ≡ 0 + k = omega arith in e) (begins k lt)
+      (pieces, are, read_all, subst (Stops F) (let e : length (concat pieces) ≡ 0 + length (concat pieces) = omega arith in e) stop, some_same (sym tells ∙ stored_there)),
+    ))
 
     -- a piece is next
     next : length (concat pieces) < F.size → chunk_count piece_len (F.size - length (concat pieces)) ≡ suc (chunk_count piece_len (F.size - length (concat pieces) - min piece_len (F.size - length (concat pieces))))
@@ -301,97 +330,153 @@ module _ (c : Conversion) (from to : Handle) (old_builder : Settings) (old_is : 
           go (inl io) = inl (refused_told end kind by ∙ ap kind_status io.0)
           go (inr is) = by_cause kind by (λ cause. unread more_F (unread_at kind un is) ∙ ap (λ (k : ErrorKind). Some k) (sym is))
 
-      -- the storage or the random source failed, and the latter where it has too few bytes
+      -- the write of the next piece failed
+      module _ (kind : ErrorKind) (x : ℕ) (xs : List ℕ) (len : length (x ∷ xs) ≡ min piece_len (from.header.file_size - length (concat pieces)))
+          (un : Unwritten C D (answers_of None) (answers_of None) from here from' to there to' (length (concat pieces)) (x ∷ xs) kind) where
+        fault : is_fault (Refused kind) ≡ true
+        fault = un.told G holds_G
+
+        failed : Failed D there to' (command.Write (length (concat pieces)) (x ∷ xs)) (Refused kind)
+        failed = (un.stepped.went moves.unmarked).failed fault
+
+        same : failed.kind ≡ kind
+        same = let e : Refused kind ≡ Refused failed.kind = failed.is in (cc)
+
+        bare : limit_of there ≡ None
+        bare = moves.limit ∙ unlimited
+
+        exact : there.outside.exact ≡ true
+        exact = filled.moved.exact ∙ made.moved.exact ∙ maker.builder.exact
+
+        hash : kind ≡ Hash → ⊥
+        hash is =
+            let may : Faultable None Hash (outline D there.header) (command.Write (length (concat pieces)) (x ∷ xs)) =
+            subst (λ (k : ErrorKind). Faultable None k (outline D there.header) (command.Write (length (concat pieces)) (x ∷ xs))) (same ∙ is)
+            (subst (λ (l : Option ℕ). Faultable l failed.kind (outline D there.header) (command.Write (length (concat pieces)) (x ∷ xs))) bare (failed.may (outline D there.header) (inr refl))) in
+            omega (arith, may.1)
+
+        len_F : length (x ∷ xs) ≡ min piece_len (F.size - length (concat pieces))
+        len_F = len ∙ len_is
+
+        can_read : none_missing (needed F (command.Read (length (concat pieces)) (min piece_len (F.size - length (concat pieces))))) 0 F.chunks ≡ true
+        can_read =
+            ap (λ (n : ℕ). none_missing (needed F (command.Read (length (concat pieces)) n)) 0 F.chunks) (sym len_F)
+            ∙ none_missing_read F short_F (length (concat pieces)) (length (x ∷ xs)) byte
+          where
+            byte : (p : ℕ) → length (concat pieces) ≤ p → p < length (concat pieces) + length (x ∷ xs) → (byte : ℕ) × IsByteOf F.shape.chunk_size F.chunks p byte
+            byte p lo hi =
+                let e : length (concat pieces) + (p - length (concat pieces)) ≡ p = omega (arith, lo) in (
+                  slice_index (x ∷ xs) (p - length (concat pieces)),
+                  subst (λ (n : ℕ). IsByteOf F.shape.chunk_size F.chunks n (slice_index (x ∷ xs) (p - length (concat pieces)))) e
+                      (un.bytes F holds_F (p - length (concat pieces)) (omega (arith, lo, hi))),
+                )
+
+        -- the random source fails where it has too few bytes
+        few : kind ≡ Rng → length c.random - 32 - asked_in None G (writes 0 pieces) < asked_at D.nonce_len c.chunk_size (length (concat pieces)) (min piece_len (F.size - length (concat pieces)))
+        few is =
+            let asks_F : asked_at D.nonce_len c.chunk_size (length (concat pieces)) (length (x ∷ xs)) ≡ asked_at D.nonce_len c.chunk_size (length (concat pieces)) (min piece_len (F.size - length (concat pieces))) =
+            ap (asked_at D.nonce_len c.chunk_size (length (concat pieces))) len_F in
+            omega (arith, short, asks_F, length-drop (asked_in None G (writes 0 pieces)) (drop 32 c.random), length-drop 32 c.random)
+          where
+            header_there : there.header ≡ with_size (header_of c) (length (concat pieces))
+            header_there = moves.header ∙ ap (λ (h : Header). with_size h (length (concat pieces))) header
+
+            fits : can_have None (outline D (with_size (header_of c) (length (concat pieces)))) (length (concat pieces) + length (x ∷ xs)) ≡ true
+            fits = can_have_less None (outline D (header_of c)) (length (concat pieces) + length (x ∷ xs)) F.size (omega (arith, len_F, more_F)) can
+
+            is_asked : asked_by None (outline D (with_size (header_of c) (length (concat pieces)))) (command.Write (length (concat pieces)) (x ∷ xs))
+                ≡ asked_at D.nonce_len c.chunk_size (length (concat pieces)) (length (x ∷ xs))
+            is_asked = asked (outline D (with_size (header_of c) (length (concat pieces)))) (length (concat pieces)) x xs refl tt fits
+
+            fewer : IsShort there.outside.left (asked_by None (outline D (with_size (header_of c) (length (concat pieces)))) (command.Write (length (concat pieces)) (x ∷ xs)))
+            fewer =
+                subst (λ (h : Header). IsShort there.outside.left (asked_by None (outline D h) (command.Write (length (concat pieces)) (x ∷ xs)))) header_there
+                (subst (λ (l : Option ℕ). IsShort there.outside.left (asked_by l (outline D there.header) (command.Write (length (concat pieces)) (x ∷ xs)))) bare
+                (failed.short (outline D there.header) (inr refl) (same ∙ is) exact))
+
+            short : length (drop (asked_in None G (writes 0 pieces)) (drop 32 c.random)) < asked_at D.nonce_len c.chunk_size (length (concat pieces)) (length (x ∷ xs))
+            short =
+                subst (λ (n : ℕ). length (drop (asked_in None G (writes 0 pieces)) (drop 32 c.random)) < n) is_asked
+                (subst (λ (l : Option (List ℕ)). IsShort l (asked_by None (outline D (with_size (header_of c) (length (concat pieces)))) (command.Write (length (concat pieces)) (x ∷ xs)))) taken.1 fewer)
+
+        rng : kind ≡ Rng → refusal c F ≡ Some Rng
+        rng is = unwritten more_F can_read (few is)
+
+        wants_so : kind ≡ Rng → Wants F D.nonce_len c.chunk_size 0 (length c.random - 32) pieces
+        wants_so is =
+            subst (λ (s : Shape). Wants F s.nonce_len s.chunk_size 0 (length c.random - 32) pieces) shape_G
+            (wants F pieces G 0 (length c.random - 32) size_G (omega arith) are (held_some D to G holds_G) (subst AllThere (sym bare_G) tt) (held_count D to G holds_G) can_G readable enough fewer)
+          where
+            here_G : length c.random - 32 - asked_in None G (writes 0 pieces) < asked_at G.shape.nonce_len G.shape.chunk_size (length (concat pieces)) (min piece_len (F.size - length (concat pieces)))
+            here_G =
+                subst (λ (s : Shape). length c.random - 32 - asked_in None G (writes 0 pieces) < asked_at s.nonce_len s.chunk_size (length (concat pieces)) (min piece_len (F.size - length (concat pieces))))
+                (sym shape_G) (few is)
+
+            fewer : length c.random - 32 - asked_in None G (writes 0 pieces) < asked_at G.shape.nonce_len G.shape.chunk_size (0 + length (concat pieces)) (min piece_len (F.size - (0 + length (concat pieces))))
+            fewer =
+                subst (λ (n : ℕ). length c.random - 32 - asked_in None G (writes 0 pieces) < asked_at G.shape.nonce_len G.shape.chunk_size n (min piece_len (F.size - n)))
+                (let e : length (concat pieces) ≡ 0 + length (concat pieces) = omega arith in e) here_G
+
+        -- and so it leaves what its write had put
+        dries : kind ≡ Rng → (storage : List ℕ) → to'.outside.bytes ≡ Some storage → Dries c F storage
+        dries is storage tells = record {
+          refused = rng is;
+          short = short_F;
+          pieces = pieces;
+          are = are;
+          read = read_all;
+          wants = wants_so is;
+          piece = x ∷ xs;
+          len = len_F;
+          byte = un.bytes F holds_F;
+          starved =
+              subst (λ (now : Option (List ℕ)). Starved D c.key after c_write (stored c pieces) true (Some (left_behind c pieces)) now) tells
+              (subst (λ (l : Option (List ℕ)). Starved D c.key after c_write (stored c pieces) true l to'.outside.bytes) left
+              (subst (λ (e : Bool). Starved D c.key after c_write (stored c pieces) e there.outside.left to'.outside.bytes) exact
+              (subst (λ (b : List ℕ). Starved D c.key after c_write b there.outside.exact there.outside.left to'.outside.bytes) (some_same (sym held.tells ∙ stored_there))
+              (subst (λ (A : File). Starved D c.key A c_write held.bytes there.outside.exact there.outside.left to'.outside.bytes) (λ i. file_after (unlimited i) (G_is i) (writes 0 pieces))
+              (subst (λ (k : List ℕ). Starved D k (file_after (limit_of to) G (writes 0 pieces)) c_write held.bytes there.outside.exact there.outside.left to'.outside.bytes) (moves.key ∙ made.key_is)
+              ((un.stepped.went moves.unmarked).starved (file_after (limit_of to) G (writes 0 pieces)) held (ap (λ (k : ErrorKind). Refused k) is)))))));
+        }
+          where
+            after : File
+            after = file_after None (outline D (header_of c)) (writes 0 pieces)
+
+            c_write : Command
+            c_write = command.Write (length (concat pieces)) (x ∷ xs)
+
+            held : Holds D there (file_after (limit_of to) G (writes 0 pieces))
+            held = filled.holds
+
+            left : there.outside.left ≡ Some (left_behind c pieces)
+            left = taken.1 ∙ ap (λ (G : File). Some (drop (asked_in None G (writes 0 pieces)) (drop 32 c.random))) G_is
+
+        why_unwritten : (kind ≡ Io) ⊎ (kind ≡ Rng)
+        why_unwritten = go kind refl fault
+          where
+            go : (k : ErrorKind) → kind ≡ k → is_fault (Refused k) ≡ true → (kind ≡ Io) ⊎ (kind ≡ Rng)
+            go Io is f = inl is
+            go Rng is f = inr is
+            go Hash is f = absurd (hash is)
+            go (InvalidArgument r) is f = (cc)
+            go AuthenticationFailed is f = (cc)
+            go AlreadyExists is f = (cc)
+            go NotFound is f = (cc)
+            go Overflow is f = (cc)
+            go MerkleNotEnabled is f = (cc)
+            go (CorruptedChunk index) is f = (cc)
+            go Broken is f = (cc)
+            go OutOfMemory is f = (cc)
+
+      -- the storage or the random source failed, and the latter leaves what its write had put
       at_write : (kind : ErrorKind) (piece : List ℕ) → length piece ≡ min piece_len (from.header.file_size - length (concat pieces))
           → Unwritten C D (answers_of None) (answers_of None) from here from' to there to' (length (concat pieces)) piece kind
-          → (kind ≡ Io) ⊎ ((kind ≡ Rng) × (refusal c F ≡ Some kind))
+          → (kind ≡ Io) ⊎ ((kind ≡ Rng) × (refusal c F ≡ Some kind) × ((storage : List ℕ) → to'.outside.bytes ≡ Some storage → Dries c F storage))
       at_write kind [] len un = absurd (omega (arith, len, more))
-      at_write kind (x ∷ xs) len un = go kind refl fault
-        where
-          fault : is_fault (Refused kind) ≡ true
-          fault = un.told G holds_G
-
-          failed : Failed D there to' (command.Write (length (concat pieces)) (x ∷ xs)) (Refused kind)
-          failed = (un.stepped.went moves.unmarked).failed fault
-
-          same : failed.kind ≡ kind
-          same = let e : Refused kind ≡ Refused failed.kind = failed.is in (cc)
-
-          bare : limit_of there ≡ None
-          bare = moves.limit ∙ unlimited
-
-          hash : kind ≡ Hash → ⊥
-          hash is =
-              let may : Faultable None Hash (outline D there.header) (command.Write (length (concat pieces)) (x ∷ xs)) =
-              subst (λ (k : ErrorKind). Faultable None k (outline D there.header) (command.Write (length (concat pieces)) (x ∷ xs))) (same ∙ is)
-              (subst (λ (l : Option ℕ). Faultable l failed.kind (outline D there.header) (command.Write (length (concat pieces)) (x ∷ xs))) bare (failed.may (outline D there.header) (inr refl))) in
-              omega (arith, may.1)
-
-          rng : kind ≡ Rng → refusal c F ≡ Some kind
-          rng is = unwritten more_F can_read few ∙ ap (λ (k : ErrorKind). Some k) (sym is)
-            where
-              len_F : length (x ∷ xs) ≡ min piece_len (F.size - length (concat pieces))
-              len_F = len ∙ len_is
-
-              can_read : none_missing (needed F (command.Read (length (concat pieces)) (min piece_len (F.size - length (concat pieces))))) 0 F.chunks ≡ true
-              can_read =
-                  ap (λ (n : ℕ). none_missing (needed F (command.Read (length (concat pieces)) n)) 0 F.chunks) (sym len_F)
-                  ∙ none_missing_read F short_F (length (concat pieces)) (length (x ∷ xs)) byte
-                where
-                  byte : (p : ℕ) → length (concat pieces) ≤ p → p < length (concat pieces) + length (x ∷ xs) → (byte : ℕ) × IsByteOf F.shape.chunk_size F.chunks p byte
-                  byte p lo hi =
-                      let e : length (concat pieces) + (p - length (concat pieces)) ≡ p = omega (arith, lo) in (
-                        slice_index (x ∷ xs) (p - length (concat pieces)),
-                        subst (λ (n : ℕ). IsByteOf F.shape.chunk_size F.chunks n (slice_index (x ∷ xs) (p - length (concat pieces)))) e
-                            (un.bytes F holds_F (p - length (concat pieces)) (omega (arith, lo, hi))),
-                      )
-
-              few : length c.random - 32 - asked_in None G (writes 0 pieces) < asked_at D.nonce_len c.chunk_size (length (concat pieces)) (min piece_len (F.size - length (concat pieces)))
-              few =
-                  let asks_F : asked_at D.nonce_len c.chunk_size (length (concat pieces)) (length (x ∷ xs)) ≡ asked_at D.nonce_len c.chunk_size (length (concat pieces)) (min piece_len (F.size - length (concat pieces))) =
-                  ap (asked_at D.nonce_len c.chunk_size (length (concat pieces))) len_F in
-                  omega (arith, short, asks_F, length-drop (asked_in None G (writes 0 pieces)) (drop 32 c.random), length-drop 32 c.random)
-                where
-                  header_there : there.header ≡ with_size (header_of c) (length (concat pieces))
-                  header_there = moves.header ∙ ap (λ (h : Header). with_size h (length (concat pieces))) header
-
-                  now : File
-                  now = outline D (with_size (header_of c) (length (concat pieces)))
-
-                  exact : there.outside.exact ≡ true
-                  exact = filled.moved.exact ∙ made.moved.exact ∙ maker.builder.exact
-
-                  fits : can_have None (outline D (with_size (header_of c) (length (concat pieces)))) (length (concat pieces) + length (x ∷ xs)) ≡ true
-                  fits = can_have_less None (outline D (header_of c)) (length (concat pieces) + length (x ∷ xs)) F.size (omega (arith, len_F, more_F)) can
-
-                  is_asked : asked_by None (outline D (with_size (header_of c) (length (concat pieces)))) (command.Write (length (concat pieces)) (x ∷ xs))
-                      ≡ asked_at D.nonce_len c.chunk_size (length (concat pieces)) (length (x ∷ xs))
-                  is_asked = asked (outline D (with_size (header_of c) (length (concat pieces)))) (length (concat pieces)) x xs refl tt fits
-
-                  fewer : IsShort there.outside.left (asked_by None (outline D (with_size (header_of c) (length (concat pieces)))) (command.Write (length (concat pieces)) (x ∷ xs)))
-                  fewer =
-                      subst (λ (h : Header). IsShort there.outside.left (asked_by None (outline D h) (command.Write (length (concat pieces)) (x ∷ xs)))) header_there
-                      (subst (λ (l : Option ℕ). IsShort there.outside.left (asked_by l (outline D there.header) (command.Write (length (concat pieces)) (x ∷ xs)))) bare
-                      (failed.short (outline D there.header) (inr refl) (same ∙ is) exact))
-
-                  short : length (drop (asked_in None G (writes 0 pieces)) (drop 32 c.random)) < asked_at D.nonce_len c.chunk_size (length (concat pieces)) (length (x ∷ xs))
-                  short =
-                      subst (λ (n : ℕ). length (drop (asked_in None G (writes 0 pieces)) (drop 32 c.random)) < n) is_asked
-                      (subst (λ (l : Option (List ℕ)). IsShort l (asked_by None (outline D (with_size (header_of c) (length (concat pieces)))) (command.Write (length (concat pieces)) (x ∷ xs)))) taken.1 fewer)
-
-          go : (k : ErrorKind) → kind ≡ k → is_fault (Refused k) ≡ true → (kind ≡ Io) ⊎ ((kind ≡ Rng) × (refusal c F ≡ Some kind))
-          go Io is f = inl is
-          go Rng is f = inr (is, rng is)
-          go Hash is f = absurd (hash is)
-          go (InvalidArgument r) is f = (cc)
-          go AuthenticationFailed is f = (cc)
-          go AlreadyExists is f = (cc)
-          go NotFound is f = (cc)
-          go Overflow is f = (cc)
-          go MerkleNotEnabled is f = (cc)
-          go (CorruptedChunk index) is f = (cc)
-          go Broken is f = (cc)
-          go OutOfMemory is f = (cc)
+      at_write kind (x ∷ xs) len un = elim (why_unwritten kind x xs len un) [
+        | inl io ↦ inl io
+        | inr is ↦ inr (is, rng kind x xs len un is ∙ ap (λ (k : ErrorKind). Some k) (sym is), dries kind x xs len un is)
+      ]
 
   -- ---- how it ended
 
@@ -408,7 +493,7 @@ module _ (c : Conversion) (from to : Handle) (old_builder : Settings) (old_is : 
       stopped side.From kind by more (un, same) = at_read can here there pieces moves end from' to' more kind by un
       stopped side.To kind by more (piece, len, un, quiet) = go (at_write can here there pieces moves end from' to' more kind piece len un)
         where
-          go : (kind ≡ Io) ⊎ ((kind ≡ Rng) × (refusal c F ≡ Some kind)) → EndsRight c end
+          go : (kind ≡ Io) ⊎ ((kind ≡ Rng) × (refusal c F ≡ Some kind) × ((storage : List ℕ) → to'.outside.bytes ≡ Some storage → Dries c F storage)) → EndsRight c end
           go (inl io) = inl (refused_told end kind by ∙ ap kind_status io)
           go (inr rng) = refused_right c end kind by (λ cause. inr (F, opens_F, sym rng.1))
 
@@ -438,14 +523,14 @@ module _ (c : Conversion) (from to : Handle) (old_builder : Settings) (old_is : 
 
   -- ---- what it left
 
-  module _ (end : End) (from' to' : Handle) (other : memory_status end.outcome ≢ 7) (many : RefusedBy Rng end → ⊥) (tells : to'.outside.bytes ≡ Some end.storage) where
+  module _ (end : End) (from' to' : Handle) (other : memory_status end.outcome ≢ 7) (tells : to'.outside.bytes ≡ Some end.storage) where
     left_bare : can_have None (outline D (header_of c)) F.size ≡ false → to' ≡ to → Leaves c F end.storage
-    left_bare is same = inl (is, some_same (sym tells ∙ ap (λ (h : Handle). h.outside.bytes) same ∙ header_bytes))
+    left_bare is same = inr (inl (is, too_long is, some_same (sym tells ∙ ap (λ (h : Handle). h.outside.bytes) same ∙ header_bytes)))
 
     module _ (can : can_have None (outline D (header_of c)) F.size ≡ true) (here there : Handle) (pieces : List (List ℕ))
         (moves : Moves C D (answers_of None) piece_len from here to there pieces) where
-      left_there : to' ≡ there → Stops F (length (concat pieces)) → Leaves c F end.storage
-      left_there same stop = leaves can here there pieces moves end.storage (ap (λ (h : Handle). h.outside.bytes) (sym same) ∙ tells) stop
+      left_there : to' ≡ there → (refusal c F ≡ None) ⊎ (refusal c F ≡ Some AuthenticationFailed) → Stops F (length (concat pieces)) → Leaves c F end.storage
+      left_there same why stop = leaves can here there pieces moves end.storage (ap (λ (h : Handle). h.outside.bytes) (sym same) ∙ tells) why stop
 
       left_by : (s : Side) (kind : ErrorKind) → RefusedBy kind end → length (concat pieces) < from.header.file_size
           → Stopped C D (answers_of None) (answers_of None) piece_len from from' to to' here there pieces s kind → Leaves c F end.storage
@@ -453,27 +538,31 @@ module _ (c : Conversion) (from to : Handle) (old_builder : Settings) (old_is : 
         where
           go : ((kind ≡ Io) × Caused Io here.outside from'.outside) ⊎ (kind ≡ AuthenticationFailed) → Leaves c F end.storage
           go (inl io) = absurd (other (refused_told end kind by ∙ ap kind_status io.0))
-          go (inr is) = left_there same (inr (unread_at can here there pieces moves end from' to' more kind un is))
+          go (inr is) =
+              let missing = unread_at can here there pieces moves end from' to' more kind un is in
+              left_there same (inr (unread can here there pieces moves (omega (arith, more, size_F)) missing)) (inr missing)
       left_by side.To kind by more (piece, len, un, quiet) = go (at_write can here there pieces moves end from' to' more kind piece len un)
         where
-          go : (kind ≡ Io) ⊎ ((kind ≡ Rng) × (refusal c F ≡ Some kind)) → Leaves c F end.storage
+          go : (kind ≡ Io) ⊎ ((kind ≡ Rng) × (refusal c F ≡ Some kind) × ((storage : List ℕ) → to'.outside.bytes ≡ Some storage → Dries c F storage)) → Leaves c F end.storage
           go (inl io) = absurd (other (refused_told end kind by ∙ ap kind_status io))
-          go (inr rng) = absurd (many (by.0, by.1, by.2 ∙ rng.0))
+          go (inr rng) = inl (rng.2 end.storage tells)
 
       left_so : (result : Result (Unit {0}) ConvertError) → end.outcome ≡ outcome_of result
           → Ends C D (answers_of None) (answers_of None) piece_len from from' to to' here there pieces result → Leaves c F end.storage
-      left_so (Ok u) out (all, read, wrote) = left_there wrote (inl (all ∙ sym size_F))
+      left_so (Ok u) out (all, read, wrote) =
+          let all_F : length (concat pieces) ≡ F.size = all ∙ sym size_F in
+          left_there wrote (inl (all_moved can here there pieces moves all_F)) (inl all_F)
       left_so (Err e) out (more, why) = left_by e.side (kind_of e.error) (e.error, out, refl) more why
 
   pub moved_leaves : (end : End) → Moved (cipher_of (variant_of c.old_algorithm)) (cipher_of (variant_of c.algorithm)) from to end
-      → memory_status end.outcome ≢ 7 → (RefusedBy Rng end → ⊥) → Leaves c F end.storage
-  moved_leaves end m other many = go (can_have None (outline D (header_of c)) F.size) refl
+      → memory_status end.outcome ≢ 7 → Leaves c F end.storage
+  moved_leaves end m other = go (can_have None (outline D (header_of c)) F.size) refl
     where
       go : (t : Bool) → can_have None (outline D (header_of c)) F.size ≡ t → Leaves c F end.storage
-      go false is = left_bare end m.from' m.to' other many m.storage is (m.converted.too_long opened.unmarked made.unmarked (can_is false is)).2
+      go false is = left_bare end m.from' m.to' other m.storage is (m.converted.too_long opened.unmarked made.unmarked (can_is false is)).2
       go true is =
           let goes = m.converted.goes opened.unmarked made.unmarked (can_is true is) in
-          left_so end m.from' m.to' other many m.storage is goes.here goes.there goes.pieces goes.moves m.result m.outcome goes.ends
+          left_so end m.from' m.to' other m.storage is goes.here goes.there goes.pieces goes.moves m.result m.outcome goes.ends
 
   -- a new file was made
   pub made_of : IsChunkSize c.chunk_size × (32 ≤ length c.random)

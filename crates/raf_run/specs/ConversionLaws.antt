@@ -1,5 +1,5 @@
 -- What holds of conversions: the first cause that refuses one, and what it leaves where there is none (this project's own).
-use Rattle.std.specs.Prelude.{◌≡◌, ◌⊎◌, ◌≢◌, ◌<◌, [], ℕ, zero, suc, ◌+◌, ◌-◌, ◌*◌, min, Bool, true, false, not, ◌&&◌, if◌then◌else◌, nat_lt, nat_le, List, length, take, Option, Some, None, Ok}
+use Rattle.std.specs.Prelude.{◌≡◌, ◌⊎◌, ◌≢◌, [], ℕ, zero, suc, ◌+◌, ◌-◌, ◌*◌, min, Bool, true, false, not, ◌&&◌, if◌then◌else◌, nat_lt, nat_le, List, length, take, Option, Some, None, Ok}
 use Rattle.raf_format.specs.File.{File, Opens, shape_of, chunk_count, chunk_len}
 use Rattle.raf_format.specs.Version.{version_number}
 use Rattle.raf_format.specs.declared.header.Header.{Header}
@@ -97,13 +97,8 @@ Converts = (c : Conversion) (end : End) → EndsConverted c end
 abbrev pub OneVerdict : Type 0
 OneVerdict = (c : Conversion) (v w : Option ErrorKind) → Verdict c v → Verdict c w → v ≡ w
 
--- the conversion wasn't refused for want of random bytes, or there were too few for the id
-abbrev pub HasEnough : Conversion → End → Type 0
-HasEnough c end = RefusedBy Rng end → length c.random < 32
-
--- So what is written of such a conversion is one function of its content, with status 3 too. What a piece leaves that was cut short for
--- want of random bytes isn't told.
+-- So what is written of a conversion is one function of its content, with status 3 too, be it that random bytes lack within a piece.
 abbrev pub OneConversion : Type 0
 OneConversion = (c : Conversion) (e f : End) → EndsConverted c e → EndsConverted c f
-    → memory_status e.outcome ≢ 7 → memory_status f.outcome ≢ 7 → HasEnough c e → HasEnough c f
+    → memory_status e.outcome ≢ 7 → memory_status f.outcome ≢ 7
     → (memory_status e.outcome ≡ memory_status f.outcome) × (end_text e ≡ end_text f)

@@ -1,4 +1,4 @@
-use Rattle.std.proofs.Common.{◌≡◌, ◌∙◌, ap, subst, sym, List, ℕ, Some}
+use Rattle.std.proofs.Common.{◌∙◌, ap, subst, sym, List, ℕ, Some}
 use Rattle.raf_io.specs.Memory.{memory_bytes, durable_bytes}
 use Rattle.raf_script.specs.declared.script.Start.{Start}
 use Rattle.raf_run.specs.Disk.{Disk}
