@@ -95,6 +95,18 @@ module _ (C : Cipher) (E : List ℕ → Hashing) (K : List ℕ) (h : Header) (p 
         reads = pr.reads;
         asks = λ rng. pr.some;
         short = λ rng exact. short_then old.left old.left [] C.nonce_len ((p.end - p.first) * C.nonce_len) (takes_none old.left) (omega (arith, one)) ((cause Rng rng).2 exact);
+        dried = λ rng. record {
+          count = 0;
+          below = omega (arith, pr.some);
+          kept = λ _. [];
+          right = λ b told. inl refl;
+          nonces = [];
+          drawn = omega arith;
+          rest = old.left;
+          taken = takes_none old.left;
+          short = (cause Rng rng).2;
+          bytes_are = λ b told. pr.bytes ∙ told;
+        };
         hashes = λ hash. absurd (cause Hash hash);
         there = λ b told which misses. elim which [
           | inl rng ↦ (cause Rng rng).3 b told misses
@@ -194,6 +206,7 @@ module _ (C : Cipher) (E : List ℕ → Hashing) (K : List ℕ) (h : Header) (p 
           reads = tt;
           asks = tt;
           short = tt;
+          dried = tt;
           hashes = tt;
           there = λ b told. tt;
           unbegun = tt;
@@ -223,6 +236,22 @@ module _ (C : Cipher) (E : List ℕ → Hashing) (K : List ℕ) (h : Header) (p 
       short = λ rng exact.
           short_then old.left mid.left nonce ((p.end - 1 - p.first) * C.nonce_len) ((p.end - p.first) * C.nonce_len) (pr.taken (cm.asks rng)) (omega (arith, nonce_most, nonces_one (cm.asks rng)))
           ((cause Rng rng).1 (pr.moved.exact ∙ exact));
+      dried = λ rng.
+          let dry = cm.drained rng in
+          record {
+            count = dry.count;
+            below = dry.below;
+            kept = kept;
+            right = λ b told. inr (pr.right b told);
+            nonces = dry.stored.nonces;
+            drawn = dry.stored.drawn;
+            rest = dry.mid.left;
+            taken = subst (λ (l : List ℕ). Takes old.left l dry.mid.left)
+                (ap (λ (l : List ℕ). l ++ drop C.nonce_len dry.stored.nonces) (sym (dry.stored.begins dry.some)) ∙ take-append-drop C.nonce_len dry.stored.nonces)
+                (takes_then old.left mid.left dry.mid.left nonce (drop C.nonce_len dry.stored.nonces) (pr.taken (cm.asks rng)) dry.stored.taken);
+            short = λ exact. dry.short (pr.moved.exact ∙ exact);
+            bytes_are = λ b told. dry.bytes_stay ∙ dry.stored.bytes_are b (pr.bytes ∙ told);
+          };
       hashes = λ hash. (cause Hash hash).1;
       there = λ b told which. none_misses C K h p (length bytes) planned size b kept (pr.right b told);
       unbegun = λ auth. absurd (cause AuthenticationFailed auth);

@@ -134,6 +134,7 @@ module _ (C : Cipher) (lawful : IsLawful C) (E : List ℕ → Hashing) (laws : (
   went_done quiet strays = record {
     answered = λ F held _. subst (λ (G : File). Answered C E old new G held.bytes c done) (sym held.file) (answered held.bytes held.tells held.is_file);
     cut = λ F held fault. absurd (false≢true (sym ready.faultless ∙ fault));
+    starved = λ F held is. absurd (false≢true (sym ready.answered ∙ ap refuses is));
     failed = λ fault. absurd (false≢true (sym ready.faultless ∙ fault));
     quiet = λ _. quiet;
     shaped = λ _. shaped_by (limit_of old) (outline C old.header) done c ready.alters.kind

@@ -9,18 +9,18 @@ use Rattle.raf_io.specs.Kinds.{kind_of}
 use Rattle.raf_tree.specs.Hashing.{Hashing}
 use Rattle.raf_tree.specs.Tree.{height}
 use Rattle.raf_format.specs.Cipher.{Cipher, IsLawful}
-use Rattle.raf_format.specs.File.{File, Shape, IsFile, shape_of, chunk_count, chunks_from, file_of}
+use Rattle.raf_format.specs.File.{File, Shape, IsFile, shape_of, tag_len, sealed, chunk_count, chunks_from, file_of}
 use Rattle.raf.specs.Due.{Due, Answers, is_fault, is_refused, is_barred}
 use Rattle.raf.specs.Due.Due.{Exactly}
 use Rattle.raf.specs.Concern.{is_touched, is_needed, touched, none_missing, sum_where}
 use Rattle.raf.specs.Apply.{apply}
 use Rattle.raf.specs.Change.{Change, change_of}
 use Rattle.raf.specs.Image.{image, bytes_after, asked_by, calls_by}
-use Rattle.raf.specs.Meaning.{Faultable, Spares}
+use Rattle.raf.specs.Meaning.{Faultable, Spares, Starved}
 use Rattle.raf.specs.Outside.{Outside, Caused}
 use Rattle.raf.specs.Handle.{Handle, Holds, Measures, WithTree, OfTree, Grown, KeptAnswer, limit_of, outline}
 use Rattle.raf.specs.Plan.{plan_of}
-use Rattle.raf.specs.Put.{Changing, Misses, Unready}
+use Rattle.raf.specs.Put.{stride, placed, nonce_at, record_for, Changing, Dried, Misses, Unready}
 use Rattle.raf.specs.Stepped.{Answered, Cut, Bounded, Needs, Went, refuses}
 use Rattle.raf.specs.declared.planning.Plan.{Plan}
 use Rattle.raf.specs.declared.command.Command.{Command}
@@ -37,6 +37,8 @@ use Rattle.raf.proofs.Arms.{with_chunks, fits_is, needed_is, arm_done, arm_missi
 use Rattle.raf.proofs.Amounts.{asked_is, asked_none, calls_is, touched_is, size_is, concerned}
 use Rattle.raf.proofs.ChangeBounds.{limit_by, accepted, refused, bounded_done, bounded_early}
 use Rattle.raf.proofs.Fills.{kept_short}
+use Rattle.raf.proofs.Pictures.{made, all_made}
+use Rattle.raf.proofs.Placed.{placed_same}
 use Rattle.raf.proofs.Plans.{some_moved}
 use Rattle.raf.proofs.Ranges.{touched_ranged, needed_kept}
 use Rattle.raf.proofs.Spans.{count_above}
@@ -85,6 +87,9 @@ caused_by MerkleNotEnabled old new why fault = absurd why
 caused_by (CorruptedChunk i) old new why fault = absurd why
 caused_by Broken old new why fault = absurd why
 caused_by OutOfMemory old new why fault = absurd why
+
+kind_is : (kind : ErrorKind) → reply.Refused kind ≡ reply.Refused Rng → kind ≡ Rng
+kind_is kind same = cc
 
 -- what isn't a refusal isn't barred
 pub unbarred : (r : Reply) → refuses r ≡ false → is_barred (Exactly r) ≡ false
@@ -292,6 +297,35 @@ module _ (C : Cipher) (lawful : IsLawful C) (E : List ℕ → Hashing) (old new 
       (sym (asked_is C h c K done ready.alters ready.least ready.ranged (limit_of old) chunks (accepted C h c K done ready.alters ready.calm ready.least ready.ranged old.tree chunks ready.fits there)))
       (changing.short is exact)) F measures
 
+  -- where the random source failed, the records before stand
+  starved : (b : List ℕ) → old.outside.bytes ≡ Some b → (is_file : IsFile C old.key b old.header) → kind ≡ Rng
+      → Starved C old.key (file_of C old.key old.header b) c b old.outside.exact old.outside.left new.outside.bytes
+  starved b tells is_file rng = record {
+    change = K;
+    changes = ready.alters.change (opened b);
+    count = dry.count;
+    nonces = dry.nonces;
+    drawn = dry.drawn;
+    rest = dry.rest;
+    taken = dry.taken;
+    short = dry.short;
+    tells = dry.bytes_are b tells ∙ ap (λ (l : List ℕ). Some l) (elim (dry.right b tells) [
+      | inl none ↦ ap (λ (n : ℕ). placed (stride s) by_plan p.first n b) none ∙ sym (ap (λ (n : ℕ). placed (stride s) anew p.first n b) none)
+      | inr right ↦ placed_same (stride s) by_plan anew p.first dry.count b
+          (λ i le lt. ap (λ (m : List ℕ). sealed C (tag_len s) (C.chunk_key old.key h.id) h.id i (nonce_at C.nonce_len p.first dry.nonces i) m)
+          (all_made C lawful old.key b h K is_file ready.ranged dry.kept right i le (omega (arith, lt, dry.below))))
+    ]);
+  }
+    where
+      dry : Dried C (C.chunk_key old.key old.header.id) p K.bytes old new
+      dry = changing.dried rng
+
+      by_plan : ℕ → List ℕ
+      by_plan i = record_for C (C.chunk_key old.key old.header.id) old.header p K.bytes i (nonce_at C.nonce_len p.first dry.nonces i) (dry.kept i)
+
+      anew : ℕ → List ℕ
+      anew i = sealed C (tag_len s) (C.chunk_key old.key h.id) h.id i (nonce_at C.nonce_len p.first dry.nonces i) (made C lawful old.key b h K is_file ready.ranged i)
+
   needs : kind ≡ AuthenticationFailed → Needs (outline C old.header) c
   needs is =
       let r = changing.reads is in
@@ -313,6 +347,8 @@ module _ (C : Cipher) (lawful : IsLawful C) (E : List ℕ → Hashing) (old new 
         (answered held.bytes held.tells held.is_file (only_missing kind old.outside new.outside changing.failed calm));
     cut = λ F held fault. subst (λ (G : File). Cut old new G held.bytes c) (sym held.file)
         (let sp = spares held.bytes held.tells held.is_file in record { left = left held.bytes held.tells held.is_file; bytes = sp.0; tells = sp.1; spares = sp.2 });
+    starved = λ F held is. subst (λ (G : File). Starved C old.key G c held.bytes old.outside.exact old.outside.left new.outside.bytes) (sym held.file)
+        (starved held.bytes held.tells held.is_file (kind_is kind is));
     failed = λ fault. record { kind = kind; is = refl; cause = caused_by kind old.outside new.outside changing.failed fault; may = may fault; short = short };
     quiet = λ calm. subst (λ (k : ErrorKind). Unready k old.outside new.outside) (only_missing kind old.outside new.outside changing.failed calm) changing.failed;
     shaped = λ calm.

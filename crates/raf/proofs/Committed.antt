@@ -112,6 +112,7 @@ module _ (C : Cipher) (E : List ℕ → Hashing) (key K : List ℕ) (h : Header)
     left = st.left;
     failed = st.failed;
     asks = λ _. st.some;
+    drained = st.drained;
     began = st.began;
     quiet = tt;
     moved = moved_calls old new _ _ _ _ (p.end - p.first) (moved_less old new _ _ _ _ _ (layout_len s p.size) (new_records s p + (if nat_eq p.size p.before then 0 else 96)) ((p.end - 1 - p.first) * C.nonce_len) (changes_of p) (p.end - p.first) st.moved
@@ -137,6 +138,7 @@ module _ (C : Cipher) (E : List ℕ → Hashing) (key K : List ℕ) (h : Header)
       left = subst (λ (o : Option (List ℕ)). TakesAtMost old.left ((p.end - 1 - p.first) * C.nonce_len) o) (sym f.left) taken_most;
       failed = subst (λ (k : ErrorKind). Hindered ((p.end - 1 - p.first) * C.nonce_len) k old new tree₁) (sym f.failed.0) (caused_later Io old mid new st.quiet f.failed.1);
       asks = λ rng. absurd (differ (sym f.failed.0 ∙ rng));
+      drained = λ rng. absurd (differ (sym f.failed.0 ∙ rng));
       began = inl (omega (arith, f.began, st.moved.changes_later));
       quiet = tt;
       moved = moved_calls old new _ _ _ _ _ (moved_less old new _ _ _ _ _ (layout_len s p.size) (new_records s p + (if nat_eq p.size p.before then 0 else 96)) ((p.end - 1 - p.first) * C.nonce_len) (changes_of p) (p.end - p.first)
@@ -176,6 +178,7 @@ module _ (C : Cipher) (E : List ℕ → Hashing) (key K : List ℕ) (h : Header)
           failed = if_err_and r _ _ _ (λ e (why : (kind_of e ≡ Hash) × Caused Hash fin new) (has : HasTree tree').
               subst (λ (k : ErrorKind). Hindered ((p.end - 1 - p.first) * C.nonce_len) k old new tree') (sym why.0) (caused_later Hash old fin new q why.1, has)) failed there;
           asks = if_err r _ _ (λ e (why : (kind_of e ≡ Hash) × Caused Hash fin new) rng. absurd (differ (sym why.0 ∙ rng))) failed;
+          drained = if_err r _ _ (λ e (why : (kind_of e ≡ Hash) × Caused Hash fin new) rng. absurd (differ (sym why.0 ∙ rng))) failed;
           began = on_err r _ _ (λ (rose : Rose fin.calls new.calls). inr (omega (arith, rose, f.moved.calls_later, st.moved.calls_later))) began;
           quiet = on_ok r _ _ (λ (last : Quiet fin new). quiet_then old fin new q last) quiet;
           moved = moved_calls old new _ _ _ _ _ (moved_less old new _ _ _ _ _ (layout_len s p.size) (new_records s p + (if nat_eq p.size p.before then 0 else 96)) ((p.end - 1 - p.first) * C.nonce_len) (changes_of p) (p.end - p.first + 0 + (new.calls - fin.calls))

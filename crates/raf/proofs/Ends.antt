@@ -10,7 +10,7 @@ use Rattle.raf.specs.Apply.{apply, file_after, longest}
 use Rattle.raf.specs.Image.{traced, asked_by, asked_in, changes_in, traffic_in, calls_in}
 use Rattle.raf.specs.Change.{change_of}
 use Rattle.std.specs.Prelude.{is_some}
-use Rattle.raf.specs.Meaning.{Spares, Faultable}
+use Rattle.raf.specs.Meaning.{Spares, Starved, Faultable}
 use Rattle.raf.specs.Outside.{Outside, Quiet, Moved}
 use Rattle.raf.specs.Handle.{Handle, Holds, WithTree, Grown, limit_of, outline}
 use Rattle.raf.specs.Stepped.{Stepped, Went, Bounded, may_settle}
@@ -21,6 +21,8 @@ use Rattle.raf.specs.Due.{is_fault}
 use Rattle.raf.specs.declared.command.Command.{Command}
 use Rattle.raf.specs.declared.command.Command.TheVariants as command
 use Rattle.raf.specs.declared.command.Reply.{Reply}
+use Rattle.raf.specs.declared.command.Reply.TheVariants.{Refused}
+use Rattle.raf_io.specs.declared.errors.ErrorKind.{ErrorKind}
 use Rattle.raf.proofs.Moves.{moved_same, moved_less, moved_then, quiet_same, quiet_then, caused_later, takes_none}
 use Rattle.raf.proofs.Opened.{holds_opens}
 use Rattle.raf.proofs.Progress.{so_far_more}
@@ -157,6 +159,11 @@ module _ (C : Cipher) (lawful : IsLawful C) (E : List ℕ → Hashing) (old : Ha
               middle = mid.outside.left;
               short = λ is exact. subst (λ (o : Option ℕ). IsShort mid.outside.left (asked_by o F' c)) progress.limit (failed.short F' (inl s.holds) is (progress.exact ∙ exact));
               taken = s.taken;
+              starved = λ is.
+                  subst (λ (k : List ℕ). Starved C k F' c (traced (limit_of old) C old.key F done s.nonces held.bytes) old.outside.exact mid.outside.left new.outside.bytes) progress.key
+                  (subst (λ (x : Bool). Starved C mid.key F' c (traced (limit_of old) C old.key F done s.nonces held.bytes) x mid.outside.left new.outside.bytes) progress.exact
+                  (subst (λ (l : List ℕ). Starved C mid.key F' c l mid.outside.exact mid.outside.left new.outside.bytes) bytes
+                  (went.starved F' s.holds (failed.is ∙ ap (λ (k : ErrorKind). Refused k) is))));
               left = subst (λ (o : Option ℕ). TakesAtMost mid.outside.left (asked_by o F' c) new.outside.left) progress.limit cut.left;
               bytes = cut.bytes;
               tells = cut.tells;

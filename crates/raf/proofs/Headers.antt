@@ -1,7 +1,6 @@
 -- What is read of a header, and what follows for the whole storage.
 use Rattle.std.proofs.Common.{◌≡◌, inl, inr, ℕ, ◌≤◌, ◌<◌, ◌^◌, List, length, take, drop, Option, Some, sym, ◌∙◌, ap, subst, arith, length-take}
 use Rattle.std.proofs.lemmas.List.{take-take, drop-take}
-use Rattle.std.specs.Prelude.{◌⊎◌}
 use Rattle.raf_io.specs.Storage.{ReadsFrom}
 use Rattle.raf_format.specs.Version.{IsVersion}
 use Rattle.raf_format.specs.Cipher.{Cipher}

@@ -50,6 +50,7 @@ module _ (C : Cipher) (E : List ℕ → Hashing) (old : Handle) (c : Command) (r
   went_idle = record {
     answered = λ F held _. subst (λ (G : File). Holds C old G → Answered C E old old G held.bytes c reply) (sym held.file) (answered _ held.bytes held.tells) held;
     cut = λ F held fault. absurd (false≢true (sym calm ∙ fault));
+    starved = λ F held is. absurd (false≢true (sym calm ∙ ap is_fault is));
     failed = λ fault. absurd (false≢true (sym calm ∙ fault));
     quiet = λ _. quiet_same old.outside old.outside refl;
     shaped = λ _. shaped_by (limit_of old) (outline C old.header) reply c kind (inr (subst (λ (d : Due × File). Answers (HasForm c) d.0 reply) (sym (due [])) refl));

@@ -1,5 +1,5 @@
 -- A run by numbers goes on by a command, over any storage.
-use Rattle.std.proofs.Common.{◌≡◌, inl, inr, Bool, true, false, cond, not, ◌&&◌, ℕ, ◌+◌, ◌≤◌, max, List, [], ◌∷◌, ◌++◌, Option, refl, sym, ◌∙◌, ap, subst, arith}
+use Rattle.std.proofs.Common.{◌≡◌, inl, inr, Bool, true, false, cond, not, ℕ, ◌+◌, max, List, [], ◌∷◌, ◌++◌, Option, refl, sym, ◌∙◌, ap, subst, arith}
 use Rattle.std.specs.Prelude.{◌⊎◌}
 use Rattle.std.proofs.lemmas.Bool.{false≢true}
 use Rattle.raf_tree.specs.Hashing.{Hashing}
@@ -12,7 +12,7 @@ use Rattle.raf.specs.Apply.{apply, answer, changed, cause_of}
 use Rattle.raf.specs.Concern.{size_after, valid, fits, needed, none_missing}
 use Rattle.raf.specs.Image.{asked_by, changes_by, traffic_by, calls_by}
 use Rattle.raf.specs.Meaning.{Faultable}
-use Rattle.raf.specs.Outside.{Quiet, Moved}
+use Rattle.raf.specs.Outside.{Quiet}
 use Rattle.raf.specs.Handle.{Handle, limit_of, outline}
 use Rattle.raf.specs.Stepped.{Stepped, Went, Shaped, HasForm, Needs, Bounded, refuses, with_size, broken_reply, broken_at}
 use Rattle.raf.specs.Unseen.{Mark, is_size, says_broken, stops, mark_after, sum_along, ShapedBy, AllShaped, numbers_after, numbers_in, longest_by, longest_along, BoundedAlong}
@@ -25,7 +25,6 @@ use Rattle.raf.specs.declared.command.Reply.TheVariants as reply_as
 use Rattle.raf_io.specs.declared.errors.ErrorKind.{ErrorKind}
 use Rattle.raf_io.specs.declared.errors.ErrorKind.TheVariants.{Io, InvalidArgument, AuthenticationFailed, AlreadyExists, NotFound, Overflow, MerkleNotEnabled, CorruptedChunk, Rng, Hash, Broken, OutOfMemory}
 use Rattle.raf.proofs.Moves.{moved_then, moved_less, moved_same, moved_any, caused_later}
-use Rattle.raf.proofs.Sizes.{stepped_shape}
 
 -- what is put behind commands and their replies
 sum-push : (by : File → Command → ℕ) (limit : Option ℕ) (F : File) (m : Mark) (cs : List Command) (rs : List Reply) (c : Command) (r : Reply) → AllShaped limit m F cs rs

@@ -21,7 +21,7 @@ use Rattle.raf.specs.declared.planning.Plan.{Plan}
 use Rattle.raf_format.specs.declared.header.Header.{Header}
 use Rattle.raf_io.specs.declared.errors.Error.{Error}
 use Rattle.raf_io.specs.declared.errors.ErrorKind.{ErrorKind}
-use Rattle.raf_io.specs.declared.errors.ErrorKind.TheVariants.{Io, Hash}
+use Rattle.raf_io.specs.declared.errors.ErrorKind.TheVariants.{Io, Hash, Rng}
 use Rattle.raf.proofs.Moves.{moved_then, moved_less, quiet_then, caused_later}
 use Rattle.raf.proofs.Spans.{record_inside}
 use Rattle.raf.proofs.Tears.{torn_to, torn_none}
@@ -37,6 +37,12 @@ on_ok_any (Err e) P h = tt
 pub if_err : {T E : Type 0} (r : Result T E) (P Q : E → Type 0) → ((e : E) → P e → Q e) → IfErr r P → IfErr r Q
 if_err (Ok x) P Q f h = tt
 if_err (Err e) P Q f h = f e h
+
+hash_rng : Hash ≡ Rng → ⊥
+hash_rng is = cc
+
+io_rng : Io ≡ Rng → ⊥
+io_rng is = cc
 
 -- what is kept fits
 pub kept_fits : (chunk_size : ℕ) (p : Plan) (len index : ℕ) → kept_len chunk_size p len index ≤ chunk_len chunk_size p.size index
@@ -102,6 +108,7 @@ module _ (C : Cipher) (E : List ℕ → Hashing) (K : List ℕ) (h : Header) (p 
     same = same;
     left = kept_.left;
     failed = subst (λ (k : ErrorKind). Hindered 0 k old new tree') (sym failed.0) (failed.1, there);
+    drawn = λ is. hash_rng (sym failed.0 ∙ is);
     began = inr began;
     quiet = tt;
     moved = moved_less old new _ _ _ _ _ (layout_len s p.size) (record_len s p.size index) 0 1 1 moved (omega arith) (omega arith) (omega arith) (omega arith) (omega arith);
@@ -129,6 +136,7 @@ module _ (C : Cipher) (E : List ℕ → Hashing) (K : List ℕ) (h : Header) (p 
     same = same;
     left = left ∙ kept_.left;
     failed = if_err r _ _ (λ e why. subst (λ (k : ErrorKind). Hindered 0 k old new tree') (sym why.0) (caused_later Io old mid new quiet why.1)) failed;
+    drawn = if_err r _ _ (λ e (why : (kind_of e ≡ Io) × Caused Io mid new) is. io_rng (sym why.0 ∙ is)) failed;
     began = inl (omega (arith, began, moved.changes_later));
     quiet = on_ok r _ _ (λ (q : Quiet mid new). quiet_then old mid new quiet q) quiet';
     moved = moved_less old new _ _ _ _ _ (layout_len s p.size) (record_len s p.size index) 0 1 1 (moved_then old mid new _ _ _ _ _ _ _ _ _ _ moved moved')

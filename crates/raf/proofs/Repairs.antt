@@ -1,13 +1,12 @@
 -- A storage that gets the length that its header says: the look at it, and what it opens to then.
-use Rattle.std.proofs.Common.{◌≡◌, inl, inr, Bool, true, false, ℕ, ◌≤◌, ◌<◌, ◌^◌, ◌+◌, ◌-◌, max, List, length, take, replicate, ◌++◌, Option, Some, None, Result, Ok, Err, refl, sym, ◌∙◌, ap, subst, arith}
-use Rattle.std.specs.Prelude.{◌⊎◌, IfErr, IfOk}
+use Rattle.std.proofs.Common.{◌≡◌, inl, inr, true, false, ℕ, ◌≤◌, ◌<◌, ◌^◌, max, List, length, take, Option, Some, Ok, Err, refl, sym, ◌∙◌, ap, subst, arith}
 use Rattle.std.proofs.Math.Seq.{take-length}
 use Rattle.std.proofs.lemmas.Bool.{false≢true}
 use Rattle.std.specs.Option.{option_map}
 use Rattle.counts.specs.Counts.{Rose}
 use Rattle.raf_format.specs.Cipher.{Cipher, IsLawful}
-use Rattle.raf_format.specs.Header.{Says, Tagged}
-use Rattle.raf_format.specs.File.{IsFile, Opens, file_of, shape_of, layout_len}
+use Rattle.raf_format.specs.Header.{Says}
+use Rattle.raf_format.specs.File.{IsFile, Opens, file_of}
 use Rattle.raf_format.specs.declared.header.Header.{Header}
 use Rattle.raf_format.proofs.Opened.{opens_of}
 use Rattle.raf_format.proofs.Headers.{says_one}
@@ -20,7 +19,7 @@ use Rattle.raf_io.proofs.Splices.{length-resized, take-resized, resized_cut}
 use Rattle.raf.specs.Loaded.{Front}
 use Rattle.raf.specs.Outside.{Outside, Kept, Quiet, Caused, Moved}
 use Rattle.raf.specs.Opening.{RefusalFault}
-use Rattle.raf.specs.Repaired.{length_of, IsHeaded, WhyNotHeaded, IsHeadKind, Measured, HasLength, Repaired}
+use Rattle.raf.specs.Repaired.{length_of, IsHeaded, WhyNotHeaded, IsHeadKind, Measured, Repaired}
 use Rattle.raf.specs.declared.repairing.Lengths.{Lengths}
 use Rattle.raf.proofs.Headers.{says_front, says_whole, tagged_front, tagged_whole}
 use Rattle.raf.proofs.Moves.{quiet_then, kept_then, moved_then, moved_less, caused_later}

@@ -1,5 +1,5 @@
 -- A session, from an opening and the run of its commands.
-use Rattle.std.proofs.Common.{◌≡◌, inl, inr, false, ℕ, ◌+◌, ◌≤◌, ◌<◌, ◌^◌, List, [], ◌∷◌, length, Option, Some, None, Result, Ok, Err, refl, sym, ◌∙◌, ap, subst, arith}
+use Rattle.std.proofs.Common.{◌≡◌, inl, inr, Bool, ℕ, ◌+◌, ◌≤◌, ◌<◌, ◌^◌, List, [], ◌∷◌, length, Option, Some, Result, Ok, Err, sym, ◌∙◌, ap, subst, arith}
 use Rattle.std.specs.Prelude.{◌⊎◌}
 use Rattle.raf_io.specs.Source.{Takes}
 use Rattle.raf_io.specs.declared.errors.Error.{Error}
@@ -8,7 +8,9 @@ use Rattle.raf_io.specs.declared.errors.ErrorKind.TheVariants.{OutOfMemory}
 use Rattle.raf_tree.specs.Hashing.{Hashing}
 use Rattle.raf_format.specs.Cipher.{Cipher}
 use Rattle.raf_format.specs.File.{File, Shape, Opens, file_layout, layout_len, chunk_count, shape_of}
-use Rattle.raf.specs.Apply.{longest}
+use Rattle.raf.specs.Apply.{file_after, longest}
+use Rattle.raf.specs.Image.{traced}
+use Rattle.raf.specs.Meaning.{Starved}
 use Rattle.raf.specs.Outside.{Outside, Quiet}
 use Rattle.raf.specs.Handle.{Handle, Holds, limit_of, hash_len_of, outline}
 use Rattle.raf.specs.Opening.{Settings, Room, NotOpened, Opened, opening_traffic, opening_calls}
@@ -65,6 +67,7 @@ module _ (C : Cipher) (E : List ℕ → Hashing) (key : List ℕ) (s : Settings)
     short = λ is exact. f.short is (opened.looked.later.exact ∙ exact);
     taken = subst (λ (o : Option (List ℕ)). Takes o f.nonces f.middle) opened.looked.kept.left f.taken;
     left = f.left;
+    starved = λ is. subst (λ (x : Bool). Starved C key (file_after s.most F f.done) f.command (traced s.most C key F f.done f.nonces b) x f.middle after.bytes) opened.looked.later.exact (f.starved is);
     bytes = f.bytes;
     tells = f.tells;
     settled = f.settled;

@@ -13,7 +13,9 @@ use Rattle.raf.specs.Apply.{apply, answer, changed, cause_of}
 use Rattle.raf.specs.Image.{bytes_after, asked_by, image}
 use Rattle.raf.specs.Change.{change_of}
 use Rattle.std.specs.Prelude.{is_some}
-use Rattle.raf.specs.Meaning.{Authentic}
+use Rattle.raf.specs.Meaning.{Authentic, Faultable, Starved}
+use Rattle.raf_io.specs.declared.errors.ErrorKind.{ErrorKind}
+use Rattle.raf_io.specs.declared.errors.ErrorKind.TheVariants.{Rng}
 use Rattle.std.specs.Option.{option_map}
 use Rattle.std.proofs.lemmas.Bool.{false≢true}
 use Rattle.raf_tree.specs.Kept.{Kept as Tree}
@@ -108,6 +110,20 @@ module _ (limit : Option ℕ) (F : File) where
       go true none = refl
       go false none = none
 
+-- a command that changes nothing asks no random byte, so that its fault, if any, is none of the random source
+pub unstarved : (C : Cipher) (old new : Handle) (c : Command) (reply : Reply) → may_change c ≡ false → (is_fault reply ≡ true → Failed C old new c reply)
+    → (F : File) (held : Holds C old F) → reply ≡ Refused Rng → Starved C old.key F c held.bytes old.outside.exact old.outside.left new.outside.bytes
+unstarved C old new c reply still failed F held is = absurd (none_asked (from (failed (ap is_fault is))))
+  where
+    kind_is : (k : ErrorKind) → Refused Rng ≡ Refused k → k ≡ Rng
+    kind_is k same = cc
+
+    none_asked : Faultable (limit_of old) Rng F c → ⊥
+    none_asked may = omega (arith, may.1, still_asks (limit_of old) F c still)
+
+    from : Failed C old new c reply → Faultable (limit_of old) Rng F c
+    from f = subst (λ (k : ErrorKind). Faultable (limit_of old) k F c) (kind_is f.kind (sym is ∙ f.is)) (f.may F (inl held))
+
 -- a command that left all as it was but the counts, and was answered so
 module _ (C : Cipher) (E : List ℕ → Hashing) (old new : Handle) (c : Command) (reply : Reply) (still : may_change c ≡ false) (key : new.key ≡ old.key) (header : new.header ≡ old.header)
     (tree : new.tree ≡ old.tree) (unmarked : new.broken ≡ false) (bytes : new.outside.bytes ≡ old.outside.bytes) (left : new.outside.left ≡ old.outside.left) where
@@ -163,6 +179,7 @@ module _ (C : Cipher) (E : List ℕ → Hashing) (old new : Handle) (c : Command
       tells = bytes ∙ held.tells;
       spares = record { untouched = λ _. refl; header = λ _. refl; records = λ index lt there not. refl };
     };
+    starved = unstarved C old new c reply still failed;
     failed = failed;
     quiet = quiet;
     shaped = shaped;

@@ -152,6 +152,16 @@ module _ (C : Cipher) (E : List ℕ → Hashing) (K : List ℕ) (h : Header) (p 
       failed = subst (λ (k : ErrorKind). Hindered ((p.end - 1 - p.first) * C.nonce_len) k old new tree₁) (sym d.failed.0)
           (hindered_later C.nonce_len ((p.end - 1 - p.first) * C.nonce_len) Rng old mid new tree₁ (drop C.nonce_len g.stored.nonces) g.quiet g.moved.exact g.stored.taken
           (omega (arith, taken_len, nonces_far, nonces_fit)) (d.failed.1, d.short));
+      drained = λ _. record {
+        count = n;
+        some = g.some;
+        below = omega (arith, at, lt);
+        mid = mid;
+        tree_then = tree₁;
+        stored = g.stored;
+        bytes_stay = d.bytes;
+        short = λ exact. d.short (g.moved.exact ∙ exact);
+      };
       some = omega (arith, at, lt);
       began = began_later old mid new g.began d.moved.changes_later d.moved.calls_later;
       quiet = tt;
@@ -196,6 +206,7 @@ module _ (C : Cipher) (E : List ℕ → Hashing) (K : List ℕ) (h : Header) (p 
         );
         failed = hindered_later 0 ((p.end - 1 - p.first) * C.nonce_len) (kind_of e) old drawn new tree' (drop C.nonce_len g.stored.nonces ++ next) (quiet_then old mid drawn g.quiet d.quiet)
             (d.moved.exact ∙ g.moved.exact) taken_drawn (omega (arith, length-append (drop C.nonce_len g.stored.nonces) next, taken_len, len, nonces_far, nonces_fit)) put.failed;
+        drained = λ is. absurd (put.drawn is);
         some = omega (arith, at, lt);
         began = began_later old mid new g.began (omega (arith, d.moved.changes_later, put.moved.changes_later)) (omega (arith, d.moved.calls_later, put.moved.calls_later));
         quiet = tt;
@@ -271,6 +282,7 @@ module _ (C : Cipher) (E : List ℕ → Hashing) (K : List ℕ) (h : Header) (p 
         same = put.same;
         left = takes_nothing old.left new.left ((p.end - 1 - p.first) * C.nonce_len) put.left;
         failed = hindered_later 0 ((p.end - 1 - p.first) * C.nonce_len) (kind_of e) old old new tree' [] (record { io = refl; rng = refl; hash = refl }) refl (takes_none old.left) (omega arith) put.failed;
+        drained = λ is. absurd (put.drawn is);
         some = lt;
         began = put.began;
         quiet = tt;
@@ -292,6 +304,7 @@ module _ (C : Cipher) (E : List ℕ → Hashing) (K : List ℕ) (h : Header) (p 
         same = g.same;
         left = tt;
         failed = tt;
+        drained = tt;
         some = tt;
         began = tt;
         quiet = g.quiet;

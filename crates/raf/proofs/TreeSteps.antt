@@ -32,7 +32,7 @@ use Rattle.raf.specs.declared.command.Reply.{Reply}
 use Rattle.raf.specs.declared.command.Reply.TheVariants as reply
 use Rattle.raf.proofs.Moves.{moved_any, moved_same, moved_less, takes_none}
 use Rattle.raf.proofs.Syncs.{none_asked}
-use Rattle.raf.proofs.StillSteps.{may_change, went_still, still_bytes, still_asks}
+use Rattle.raf.proofs.StillSteps.{may_change, went_still, unstarved, still_bytes, still_asks}
 
 -- with a limit the tree decides, and without one they are refused
 decides : (F : File) (t : Bool) → t ≡ true → cond {A = Due × File} (t && true) (Merkle, F) (Exactly (reply.Refused (cond (not t) AuthenticationFailed MerkleNotEnabled)), F) ≡ (Merkle, F)
@@ -373,6 +373,7 @@ module _ (C : Cipher) (E : List ℕ → Hashing) (key : List ℕ) (h : Header) (
           tells = kept_b.bytes ∙ held.tells;
           spares = record { untouched = λ _. refl; header = λ _. refl; records = λ index lt there not. refl };
         };
+        starved = unstarved C (at a) now command.Rebuild answer refl failed;
         failed = failed;
         quiet = λ c. (calm c).0;
         shaped = λ c. (λ refused. absurd (false≢true (sym (taken_up (outline C h) command.Rebuild rebuild) ∙ refused)), λ _. (calm c).1);

@@ -140,6 +140,7 @@ pub record Puts (C : Cipher) (E : List ℕ → Hashing) (K : List ℕ) (h : Head
   pub same : SameTree tree tree'
   pub left : new.left ≡ old.left
   pub failed : IfErr result (λ e. Hindered 0 (kind_of e) old new tree')
+  pub drawn : IfErr result (λ e. kind_of e ≡ Rng → ⊥)
   pub began : MayHaveBegun old new
   pub quiet : OnOk result (Quiet old new)
   pub moved : Moved old new (layout_len (shape_of C h) p.size) (record_len (shape_of C h) p.size index) 0 1 1
@@ -172,6 +173,18 @@ pub record Going (C : Cipher) (E : List ℕ → Hashing) (K : List ℕ) (h : Hea
   pub none : tree ≡ None → new.calls ≡ old.calls
   pub strays : new.strays ≡ old.strays
 
+-- a change that had put n chunks and got no further nonce
+pub record Drained (C : Cipher) (E : List ℕ → Hashing) (K : List ℕ) (h : Header) (p : Plan) (bytes : List ℕ) (kept : ℕ → List ℕ)
+    (nonce : List ℕ) (old new : Outside) (tree : Option Kept) : Type 0 where
+  pub count : ℕ
+  pub some : 1 ≤ count
+  pub below : p.first + count ≤ p.end
+  pub mid : Outside
+  pub tree_then : Option Kept
+  pub stored : StoredUpTo C E K h p bytes kept nonce count old mid tree tree_then
+  pub bytes_stay : new.bytes ≡ mid.bytes
+  pub short : old.exact ≡ true → IsShort mid.left C.nonce_len
+
 -- all touched chunks were put
 pub record Stores (C : Cipher) (E : List ℕ → Hashing) (K : List ℕ) (h : Header) (p : Plan) (bytes : List ℕ) (kept : ℕ → List ℕ)
     (nonce : List ℕ) (old new : Outside) (tree tree' : Option Kept) (result : Result (Unit {0}) Error) : Type 0 where
@@ -181,6 +194,7 @@ pub record Stores (C : Cipher) (E : List ℕ → Hashing) (K : List ℕ) (h : He
   pub same : SameTree tree tree'
   pub left : OnErr result (TakesAtMost old.left ((p.end - 1 - p.first) * C.nonce_len) new.left)
   pub failed : IfErr result (λ e. Hindered ((p.end - 1 - p.first) * C.nonce_len) (kind_of e) old new tree')
+  pub drained : IfErr result (λ e. kind_of e ≡ Rng → Drained C E K h p bytes kept nonce old new tree)
   pub some : OnErr result (p.first < p.end)
   pub began : OnErr result (MayHaveBegun old new)
   pub quiet : OnOk result (Quiet old new)
@@ -216,6 +230,7 @@ pub record Commits (C : Cipher) (E : List ℕ → Hashing) (key K : List ℕ) (h
   pub left : OnErr result (TakesAtMost old.left ((p.end - 1 - p.first) * C.nonce_len) new.left)
   pub failed : IfErr result (λ e. Hindered ((p.end - 1 - p.first) * C.nonce_len) (kind_of e) old new tree')
   pub asks : IfErr result (λ e. kind_of e ≡ Rng → p.first < p.end)
+  pub drained : IfErr result (λ e. kind_of e ≡ Rng → Drained C E K h p bytes kept nonce old new tree)
   pub began : OnErr result (MayHaveBegun old new)
   pub quiet : OnOk result (Quiet old new)
   pub moved : Moved old new (layout_len (shape_of C h) p.size) (new_records (shape_of C h) p + (if nat_eq p.size p.before then 0 else 96))

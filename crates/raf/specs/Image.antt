@@ -1,14 +1,15 @@
 -- The bytes of a storage after commands, each new record sealed under the nonce that stood in front of the random source; and the
 -- most that commands ask (this project's own).
-use Rattle.std.specs.Prelude.{ℕ, ◌+◌, ◌-◌, ◌*◌, min, Bool, if◌then◌else◌, nat_eq, nat_lt, List, [], ◌∷◌, ◌++◌, take, drop, Option, Some}
-use Rattle.std.specs.Prelude.{None, is_some, unwrap_or}
+use Rattle.std.specs.Prelude.{ℕ, zero, suc, ◌+◌, ◌-◌, ◌*◌, ◌/◌, min, Bool, if◌then◌else◌, nat_eq, nat_lt, List, [], ◌∷◌, ◌++◌, take, drop}
+use Rattle.std.specs.Prelude.{get_or, Option, Some, None, is_some, unwrap_or}
+use Rattle.raf_io.specs.Storage.{spliced}
 use Rattle.raf_format.specs.Cipher.{Cipher}
 use Rattle.raf_format.specs.Header.{sealed_header}
 use Rattle.raf_format.specs.File.{File, tag_len, chunk_count, file_layout, sealed, record_at, record_len}
-use Rattle.raf.specs.Change.{change_of}
+use Rattle.raf.specs.Change.{Change, change_of}
 use Rattle.raf.specs.Concern.{size_after, touched, needed, sum_where}
 use Rattle.raf_tree.specs.Tree.{height}
-use Rattle.raf.specs.Apply.{apply}
+use Rattle.raf.specs.Apply.{apply, new_chunk}
 use Rattle.raf.specs.Due.{is_refused}
 use Rattle.raf_format.specs.declared.header.Header.{Header}
 use Rattle.raf.specs.declared.command.Command.{Command}
@@ -36,6 +37,25 @@ abbrev pub bytes_after : Option ℕ → Cipher → List ℕ → File → Command
 bytes_after limit C key F c nonces b =
     if is_refused (apply limit F c).0 then b
     else if is_some (change_of F c) then image C key b (apply limit F c).1 (touched F c) nonces else b
+
+-- the nonce of an index, where the first one is that of this index
+abbrev pub nonce_at : ℕ → ℕ → List ℕ → ℕ → List ℕ
+nonce_at nonce_len first nonces index = take nonce_len (drop ((index - first) * nonce_len) nonces)
+
+-- records put in their places one after the other, from an index on, this many: each is the one of its index
+abbrev pub placed : ℕ → (ℕ → List ℕ) → ℕ → ℕ → List ℕ → List ℕ
+placed step records first zero b = b
+placed step records first (suc n) b = spliced (96 + (first + n) * step) (records (first + n)) (placed step records first n b)
+
+-- the storage of a file that was b where a change of it stopped after so many records: each of them, from the first touched one on, is the
+-- new chunk's, sealed under its nonce
+abbrev pub stopped_after : Cipher → List ℕ → File → Change → ℕ → List ℕ → List ℕ → List ℕ
+stopped_after C key F K count nonces b =
+    let first = K.from / F.shape.chunk_size in
+    placed (F.shape.nonce_len + F.shape.chunk_size + tag_len F.shape)
+    (λ i. sealed C (tag_len F.shape) (C.chunk_key key F.id) F.id i (nonce_at C.nonce_len first nonces i)
+    (new_chunk F.shape.chunk_size K i (unwrap_or (get_or F.chunks i None) [])))
+    first count b
 
 -- the random bytes that a command asks: a nonce for each touched chunk. One that is refused asks none
 abbrev pub asked_by : Option ℕ → File → Command → ℕ

@@ -1,14 +1,15 @@
 -- What a command may ask, leave and read (this project's own).
 use Rattle.std.specs.Prelude.{◌≡◌, ℕ, ◌+◌, ◌-◌, ◌*◌, ◌<◌, ◌≤◌, false, if◌then◌else◌, nat_eq, List, length, take, slice_index, Option}
-use Rattle.std.specs.Prelude.{is_some, ⊤}
+use Rattle.std.specs.Prelude.{Some, Bool, true, is_some, ⊤}
+use Rattle.raf_io.specs.Source.{Takes, IsShort}
 use Rattle.raf_format.specs.Cipher.{Cipher}
 use Rattle.raf_format.specs.File.{File, tag_len, IsSealedFor, record_at, chunk_count}
 use Rattle.raf.specs.Due.{Due, is_refused, is_barred}
 use Rattle.raf.specs.Due.Due.{Exactly}
-use Rattle.raf.specs.Change.{change_of}
+use Rattle.raf.specs.Change.{Change, change_of}
 use Rattle.raf.specs.Concern.{size_after, touched, needed, sum_where}
 use Rattle.raf.specs.Apply.{apply}
-use Rattle.raf.specs.Image.{asked_by, calls_by}
+use Rattle.raf.specs.Image.{asked_by, calls_by, stopped_after}
 use Rattle.raf.specs.declared.command.Command.{Command}
 use Rattle.raf.specs.declared.command.Command.TheVariants as command
 use Rattle.raf.specs.declared.command.Reply.TheVariants.{Bytes}
@@ -46,6 +47,21 @@ pub record Spares (F : File) (c : Command) (old new : List ℕ) : Type 0 where
   pub records : (index : ℕ) → index < chunk_count F.shape.chunk_size F.size → index < chunk_count F.shape.chunk_size (size_after F c)
       → touched F c index ≡ false
       → record_at F.shape F.size index new ≡ record_at F.shape F.size index old
+
+-- a command that changes a file and stopped where the random source failed, which had told what was left: so many of its records were put,
+-- from the first one on, each under a nonce that had stood in front of the source, and a source that fails only where bytes lack had no
+-- further one. So what the storage tells now is one function of file, command, those random bytes and the bytes before
+pub record Starved (C : Cipher) (key : List ℕ) (F : File) (c : Command) (b : List ℕ) (exact : Bool) (left now : Option (List ℕ)) : Type 0
+  where
+    pub change : Change
+    pub changes : change_of F c ≡ Some change
+    pub count : ℕ
+    pub nonces : List ℕ
+    pub drawn : length nonces ≡ count * C.nonce_len
+    pub rest : Option (List ℕ)
+    pub taken : Takes left nonces rest
+    pub short : exact ≡ true → IsShort rest C.nonce_len
+    pub tells : now ≡ Some (stopped_after C key F change count nonces b)
 
 -- each byte that a read answers is a byte of a chunk whose record, in this storage, is its sealed form
 abbrev pub Authentic : Cipher → List ℕ → List ℕ → File → Command → Due → Type 0

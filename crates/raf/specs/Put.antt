@@ -1,6 +1,6 @@
 -- How a change is carried out: records put one after the other, the header, the cut, and the tree (this project's own).
 use Rattle.std.specs.Prelude.{◌≡◌, ℕ, zero, suc, ◌+◌, ◌-◌, ◌*◌, ◌<◌, ◌≤◌, max, if◌then◌else◌, nat_lt, nat_eq, ◌⊎◌, true, false, List, []}
-use Rattle.std.specs.Prelude.{length, take, drop, Option, Some, None, Result, is_ok, IfErr, OnOk, OnErr}
+use Rattle.std.specs.Prelude.{length, take, Option, Some, None, Result, is_ok, IfErr, OnOk, OnErr}
 use Rattle.raf_io.specs.Storage.{resized, spliced}
 use Rattle.raf_io.specs.Source.{Takes, TakesAtMost, IsShort}
 use Rattle.raf_io.specs.Kinds.{kind_of}
@@ -11,6 +11,7 @@ use Rattle.raf_format.specs.Cipher.{Cipher}
 use Rattle.raf_format.specs.Header.{sealed_header}
 use Rattle.raf_format.specs.File.{Shape, tag_len, shape_of, sealed, record_at, record_len, chunk_count, chunk_at, layout_len}
 use Rattle.raf.specs.Apply.{new_chunk}
+pub use Rattle.raf.specs.Image.{placed, nonce_at}
 use Rattle.raf.specs.Outside.{Outside, Quiet, Caused, Moved, MayHaveBegun}
 use Rattle.raf.specs.Handle.{Handle, WithTree, limit_of}
 use Rattle.raf.specs.Stepped.{with_size}
@@ -24,15 +25,6 @@ use Rattle.raf_io.specs.declared.errors.ErrorKind.TheVariants.{Io, Authenticatio
 -- how far one record's place is from the next
 abbrev pub stride : Shape → ℕ
 stride s = s.nonce_len + s.chunk_size + tag_len s
-
--- records put in their places one after the other, from an index on, this many: each is the one of its index
-abbrev pub placed : ℕ → (ℕ → List ℕ) → ℕ → ℕ → List ℕ → List ℕ
-placed step records first zero b = b
-placed step records first (suc n) b = spliced (96 + (first + n) * step) (records (first + n)) (placed step records first n b)
-
--- the nonce of an index, where the first one is that of this index
-abbrev pub nonce_at : ℕ → ℕ → List ℕ → ℕ → List ℕ
-nonce_at nonce_len first nonces index = take nonce_len (drop ((index - first) * nonce_len) nonces)
 
 -- the storage after the records were put: the header is written where the size is another than before, and where the file shrinks it is cut
 abbrev pub finished : List ℕ → ℕ → ℕ → ℕ → List ℕ → List ℕ
@@ -86,6 +78,22 @@ pub record Carried (C : Cipher) (E : List ℕ → Hashing) (chunk_key : List ℕ
       (kept i)) p.first (p.end - p.first) b))
   pub tree : (t u : Kept) → old.tree ≡ Some t → new.tree ≡ Some u
       → WithTree E old (λ H _. TreeCarried H (λ i. put_chunk (shape_of C old.header) p bytes i (kept i)) p t u)
+
+-- a change that stopped where the random source failed: so many records were put, from the first one on, each under a nonce that had stood
+-- in front of the source, and there was no further one
+pub record Dried (C : Cipher) (chunk_key : List ℕ) (p : Plan) (bytes : List ℕ) (old new : Handle) : Type 0 where
+  pub count : ℕ
+  pub below : p.first + count ≤ p.end
+  pub kept : ℕ → List ℕ
+  pub right : (b : List ℕ) → old.outside.bytes ≡ Some b → (count ≡ 0) ⊎ KeptOf C chunk_key old.header p (length bytes) b kept
+  pub nonces : List ℕ
+  pub drawn : length nonces ≡ count * C.nonce_len
+  pub rest : Option (List ℕ)
+  pub taken : Takes old.outside.left nonces rest
+  pub short : old.outside.exact ≡ true → IsShort rest C.nonce_len
+  pub bytes_are : (b : List ℕ) → old.outside.bytes ≡ Some b
+      → new.outside.bytes ≡ Some (placed (stride (shape_of C old.header))
+      (λ i. record_for C chunk_key old.header p bytes i (nonce_at C.nonce_len p.first nonces i) (kept i)) p.first count b)
 
 -- where a storage told these bytes of a file, it tells bytes now: the header stays where the size does, and so does each record that is
 -- neither touched nor removed
@@ -154,6 +162,7 @@ pub record Changing (C : Cipher) (E : List ℕ → Hashing) (chunk_key : List �
       × (0 < kept_len old.header.chunk_size p (length bytes) i))
   pub asks : IfErr result (λ e. kind_of e ≡ Rng → p.first < p.end)
   pub short : IfErr result (λ e. kind_of e ≡ Rng → old.outside.exact ≡ true → IsShort old.outside.left ((p.end - p.first) * C.nonce_len))
+  pub dried : IfErr result (λ e. kind_of e ≡ Rng → Dried C chunk_key p bytes old new)
   pub hashes : IfErr result (λ e. kind_of e ≡ Hash → (t : Kept) × (new.tree ≡ Some t))
   pub there : (b : List ℕ) → old.outside.bytes ≡ Some b
       → IfErr result (λ e. (kind_of e ≡ Rng) ⊎ (kind_of e ≡ Hash) ⊎ (new.broken ≡ true) → Misses C chunk_key old.header p (length bytes) b

@@ -9,7 +9,7 @@ use Rattle.raf_format.specs.File.{File, Opens, file_layout}
 use Rattle.raf.specs.Due.{Answers}
 use Rattle.raf.specs.Apply.{apply, file_after, longest}
 use Rattle.raf.specs.Image.{traced, bytes_after, asked_by, asked_in, changes_in, traffic_in, calls_in}
-use Rattle.raf.specs.Meaning.{Spares, Faultable, Authentic}
+use Rattle.raf.specs.Meaning.{Spares, Starved, Faultable, Authentic}
 use Rattle.raf.specs.Outside.{Outside, Quiet, Caused}
 use Rattle.raf.specs.Handle.{hash_len_of}
 use Rattle.raf.specs.Stepped.{may_settle}
@@ -126,6 +126,8 @@ module _ (G : Ground) where
     pub left : TakesAtMost middle (asked_by G.limit (file_after G.limit F done) command) after.left
     pub bytes : List ℕ
     pub tells : after.bytes ≡ Some bytes
+    pub starved : kind ≡ Rng → Starved G.cipher G.key (file_after G.limit F done) command
+        (traced G.limit G.cipher G.key F done nonces b) before.exact middle after.bytes
     pub settled : settled_after false done ≡ true → may_settle command ≡ false → IsDurable after
     pub spares : Spares (file_after G.limit F done) command (traced G.limit G.cipher G.key F done nonces b) bytes
 

@@ -13,7 +13,7 @@ use Rattle.raf.specs.Apply.{apply}
 use Rattle.raf.specs.Image.{bytes_after, asked_by, changes_by, traffic_by, calls_by}
 use Rattle.raf.specs.Outside.{Outside, Quiet, Caused, Moved, Began, MayHaveBegun}
 use Rattle.raf.specs.Handle.{Handle, limit_of, Holds, Measures, outline, WithTree, OfTree, Grown, KeptAnswer}
-use Rattle.raf.specs.Meaning.{Spares, Faultable, Authentic}
+use Rattle.raf.specs.Meaning.{Spares, Starved, Faultable, Authentic}
 use Rattle.raf_io.specs.Kinds.{kind_of}
 use Rattle.raf.specs.Due.{is_fault}
 use Rattle.raf_format.specs.declared.header.Header.{Header}
@@ -157,6 +157,8 @@ Committed E old _ _ = ⊤
 pub record Went (C : Cipher) (E : List ℕ → Hashing) (old new : Handle) (c : Command) (reply : Reply) : Type 0 where
   pub answered : (F : File) (held : Holds C old F) → is_fault reply ≡ false → Answered C E old new F held.bytes c reply
   pub cut : (F : File) (held : Holds C old F) → is_fault reply ≡ true → Cut old new F held.bytes c
+  pub starved : (F : File) (held : Holds C old F) → reply ≡ Refused Rng
+      → Starved C old.key F c held.bytes old.outside.exact old.outside.left new.outside.bytes
   pub failed : is_fault reply ≡ true → Failed C old new c reply
   pub quiet : is_fault reply ≡ false → Quiet old.outside new.outside
   pub shaped : is_fault reply ≡ false → Shaped (limit_of old) (outline C old.header) c reply

@@ -1,4 +1,4 @@
-use Rattle.std.proofs.Common.{◌≡◌, List, ℕ, Some, refl, ◌∙◌, ap}
+use Rattle.std.proofs.Common.{refl, ◌∙◌, ap}
 use Rattle.std.specs.Option.{option_map}
 use Rattle.raf_io.specs.Storage.{spliced}
 use Rattle.raf.specs.Handle.{Handle}

@@ -1,4 +1,4 @@
-use Rattle.std.proofs.Common.{◌≡◌, ℕ, List, length, Option, Some, refl, ◌∙◌, subst, arith}
+use Rattle.std.proofs.Common.{◌≡◌, ℕ, List, Option, Some, refl, ◌∙◌, subst, arith}
 use Rattle.raf_io.specs.Storage.{IsLengthOf}
 use Rattle.std.proofs.lemmas.Bool.{false≢true}
 use Rattle.raf_format.specs.Cipher.{cipher_of}

@@ -1,6 +1,5 @@
-use Rattle.std.proofs.Common.{◌≡◌, Bool, arith}
+use Rattle.std.proofs.Common.{Bool, arith}
 use Rattle.std.specs.Prelude.{Result}
-use Rattle.std.specs.Bool.{IsTrue}
 use Rattle.raf_format.specs.Cipher.{cipher_of}
 use Rattle.raf_format.proofs.Ciphers.{lawful}
 use Rattle.raf_io.specs.declared.errors.Error.{Error}
