@@ -1,18 +1,21 @@
 -- A session, from an opening and the run of its commands.
-use Rattle.std.proofs.Common.{◌≡◌, inl, inr, Bool, ℕ, ◌+◌, ◌≤◌, ◌<◌, ◌^◌, List, [], ◌∷◌, length, Option, Some, Result, Ok, Err, sym, ◌∙◌, ap, subst, arith}
+use Rattle.std.proofs.Common.{◌≡◌, inl, inr, Bool, true, ℕ, ◌+◌, ◌≤◌, ◌<◌, ◌^◌, List, [], ◌∷◌, length, Option, Some, None, Result, Ok, Err, refl, sym, ◌∙◌, ap, subst, arith}
 use Rattle.std.specs.Prelude.{◌⊎◌}
 use Rattle.raf_io.specs.Source.{Takes}
 use Rattle.raf_io.specs.declared.errors.Error.{Error}
 use Rattle.raf_io.specs.declared.errors.ErrorKind.{ErrorKind}
 use Rattle.raf_io.specs.declared.errors.ErrorKind.TheVariants.{OutOfMemory}
+use Rattle.std.specs.Option.{option_map}
 use Rattle.raf_tree.specs.Hashing.{Hashing}
+use Rattle.raf_tree.specs.Kept.{Kept}
 use Rattle.raf_format.specs.Cipher.{Cipher}
 use Rattle.raf_format.specs.File.{File, Shape, Opens, file_layout, layout_len, chunk_count, shape_of}
 use Rattle.raf.specs.Apply.{file_after, longest}
+use Rattle.raf.specs.Concern.{none_missing}
 use Rattle.raf.specs.Image.{traced}
 use Rattle.raf.specs.Meaning.{Starved}
 use Rattle.raf.specs.Outside.{Outside, Quiet}
-use Rattle.raf.specs.Handle.{Handle, Holds, limit_of, hash_len_of, outline}
+use Rattle.raf.specs.Handle.{Handle, Holds, WithTree, Grown, limit_of, hash_len_of, outline}
 use Rattle.raf.specs.Opening.{Settings, Room, NotOpened, Opened, opening_traffic, opening_calls}
 use Rattle.raf.specs.Session.{Ground, Whole, Faulted, Answered, Meets, begun, room_total}
 use Rattle.raf.specs.Unseen.{AllShaped, BoundedAlong, ByNumbers, CutShort}
@@ -20,6 +23,7 @@ use Rattle.raf.specs.Unseen.Mark.{Clear}
 use Rattle.raf.specs.Ran.{Ended, Ran, Serves, ground}
 use Rattle.raf.specs.declared.command.Command.{Command}
 use Rattle.raf.specs.declared.command.Reply.{Reply}
+use Rattle.raf.proofs.Decided.{all_present}
 use Rattle.raf.proofs.Moves.{moved_then, moved_less, quiet_then, caused_later}
 
 longest_first : (limit : Option ℕ) (F : File) (commands : List Command) → file_layout F ≤ longest limit F commands
@@ -92,6 +96,7 @@ module _ (C : Cipher) (E : List ℕ → Hashing) (key : List ℕ) (s : Settings)
         file = F;
         opens = opens;
         room = room_is F held.2 b opens;
+        present = present_is F held.3;
         run = run_from F b now.outside replies all.run;
         reach = omega (arith, moved.reach_most, look.reach_most, size, longest_first s.most F (begun G commands replies));
         traffic = omega (arith, moved.traffic_most, look.traffic_most);
@@ -108,6 +113,15 @@ module _ (C : Cipher) (E : List ℕ → Hashing) (key : List ℕ) (s : Settings)
           let count : length F.chunks ≡ chunk_count h.header.chunk_size h.header.file_size =
           o.count ∙ ap (λ (n : ℕ). chunk_count n o.header.file_size) cs ∙ ap (λ (n : ℕ). chunk_count h.header.chunk_size n) size in
           subst (λ (x : Option (List ℕ)). Room E x s.most (length F.chunks)) setting (subst (λ (n : ℕ). Room E before.setting s.most n) (sym count) opened.room)
+
+      present_is : (F : File) → WithTree E h (Grown F) → (x : List ℕ) (n : ℕ) → s.outside.setting ≡ Some x → s.most ≡ Some n → none_missing (λ _. true) 0 F.chunks ≡ true
+      present_is F grown x n is limit = go h.tree refl
+        where
+          go : (t : Option Kept) → h.tree ≡ t → none_missing (λ _. true) 0 F.chunks ≡ true
+          go None none = let odd : ◌≡◌ {A = Option ℕ} None (Some n) = sym (ap (option_map (λ (t : Kept). t.max_chunks)) none) ∙ opened.limit ∙ limit in (cc)
+          go (Some t) tree =
+              let g : Grown F (E x) t = grown x t (opened.looked.later.setting ∙ setting ∙ is) tree in
+              ap (none_missing (λ _. true) 0) g.present ∙ all_present 0 g.chunks
 
       calls_of : (b : List ℕ) → before.bytes ≡ Some b → (F : File) (o : Opens C key b F) → h.outside.calls ≤ before.calls + opening_calls s.most (length F.chunks)
       calls_of b tells F o =

@@ -8,6 +8,7 @@ use Rattle.raf_format.specs.Cipher.{Cipher}
 use Rattle.raf_format.specs.File.{File, Opens, file_layout}
 use Rattle.raf.specs.Due.{Answers}
 use Rattle.raf.specs.Apply.{apply, file_after, longest}
+use Rattle.raf.specs.Concern.{none_missing}
 use Rattle.raf.specs.Image.{traced, bytes_after, asked_by, asked_in, changes_in, traffic_in, calls_in}
 use Rattle.raf.specs.Meaning.{Spares, Starved, Faultable, Authentic}
 use Rattle.raf.specs.Outside.{Outside, Quiet, Caused}
@@ -135,12 +136,13 @@ module _ (G : Ground) where
   abbrev pub begun : List Command → List Reply → List Command
   begun commands replies = take (length replies) commands
 
-  -- a session over a storage that tells its bytes: the file that they open to, whose chunks have room in the tree, and the run; and the most
-  -- that was asked, the opening included
+  -- a session over a storage that tells its bytes: the file that they open to, whose chunks have room in the tree, where there is a hasher,
+  -- and are all there; and the run; and the most that was asked, the opening included
   pub record Answered (b : List ℕ) (commands : List Command) (before after : Outside) (replies : List Reply) : Type 0 where
     pub file : File
     pub opens : Opens G.cipher G.key b file
     pub room : Room G.answers G.setting G.limit (length file.chunks)
+    pub present : (x : List ℕ) (n : ℕ) → G.setting ≡ Some x → G.limit ≡ Some n → none_missing (λ _. true) 0 file.chunks ≡ true
     pub run : Whole file b commands before after replies ⊎ Faulted file b commands before after replies
     pub reach : after.reach ≤ max before.reach (longest G.limit file (begun commands replies))
     pub traffic : after.traffic ≤ before.traffic + opening_traffic G.limit (length b) + traffic_in G.limit file (begun commands replies)

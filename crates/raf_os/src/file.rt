@@ -3,15 +3,16 @@ ghost use Rattle.std.specs.Prelude.{◌≡◌, ◌+◌, ◌^◌, ◌<◌, max, I
 ghost use Rattle.counts.specs.Counts.{raised, HasCause};
 ghost use Rattle.raf_os.specs.Fresh.{IsFresh};
 
+use crate::place::Place;
 use crate::whole::{read_whole, write_whole};
 use raf_io::RafIo;
 use std::fs::{File, OpenOptions};
 use std::io;
-use std::io::{Seek, SeekFrom};
 use std::rt::Files;
 
-/// A file of the host. Each read and each write first seeks, and then asks the host until all bytes are moved; a call of the host that is
-/// interrupted, or that moves nothing, is a fault. One handle at a time is to stand on a file.
+/// A file of the host. Each read and each write asks the host at its offset until all bytes are moved, which is one call where the host moves
+/// them at once; a call of the host that is interrupted, or that moves nothing, is a fault. The file's own position plays no part. One handle
+/// at a time is to stand on a file.
 #[derive(Drop)]
 pub struct FileIo {
     file: File,
@@ -78,18 +79,6 @@ impl FileIo {
     }
 }
 
-// Fills the buffer with the file's bytes from an offset on.
-fn read_from(file: &mut File, buf: &mut [u8], offset: u64) -> io::Result<()> {
-    file.seek(SeekFrom::Start(offset))?;
-    read_whole(file, buf)
-}
-
-// Writes the bytes at an offset.
-fn write_to(file: &mut File, bytes: &[u8], offset: u64) -> io::Result<()> {
-    file.seek(SeekFrom::Start(offset))?;
-    write_whole(file, bytes)
-}
-
 // How many bytes the file has.
 fn size_of(file: &File) -> io::Result<u64> {
     Ok(file.metadata()?.len())
@@ -112,14 +101,14 @@ impl RafIo for FileIo {
 
     fn read_at(&mut self, buf: &mut [u8], offset: u64) -> io::Result<()> {
         self.ask(offset, buf.len());
-        let read = read_from(&mut self.file, buf, offset);
+        let read = read_whole(&mut Place::new(&self.file, offset), buf);
         self.counted(read)
     }
 
     fn write_at(&mut self, buf: &[u8], offset: u64) -> io::Result<()> {
         self.ask(offset, buf.len());
         self.changes = self.changes.saturating_add(1);
-        let written = write_to(&mut self.file, buf, offset);
+        let written = write_whole(&mut Place::new(&self.file, offset), buf);
         self.counted(written)
     }
 

@@ -6,6 +6,7 @@
 #![tactic(auto)]
 
 mod file;
+mod place;
 mod source;
 mod whole;
 
